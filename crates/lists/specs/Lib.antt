@@ -1,0 +1,1 @@
+-- The definitions and laws on lists and numbers that know nothing of splits.
