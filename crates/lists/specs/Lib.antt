@@ -1,1 +1,2 @@
 -- The definitions and laws on lists and numbers that know nothing of splits.
+pub mod Base
