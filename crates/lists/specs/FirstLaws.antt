@@ -5,7 +5,7 @@ use Prim.Native.Nat.{ℕ, zero, suc, _+_, _-_, _≤_, _<_}
 use native.Mathlib.Numerals.{add-one}
 use native.Mathlib.Omega.{arith}
 use native.Mathlib.Decide.{decLt}
-use Rattle.lists.specs.Base.{firstFrom}
+use Rattle.lists.specs.Base.{firstFrom, first}
 use Rattle.lists.specs.AnyLaws.{never}
 
 module _ (p : ℕ → Bool) where
@@ -71,6 +71,16 @@ module _ (p : ℕ → Bool) where
       go : Dec (firstFrom p b m < b + m) → firstFrom p b m ≡ b + m
       go (yes l) = never (firstFrom-is b m l) (none (firstFrom p b m) (firstFrom-ge b m) l)
       go (no n) = omega (arith, firstFrom-le b m)
+
+  -- The same of `first`, which begins at 0.
+  pub first-le : (n : ℕ) → first p n ≤ n
+  first-le n = omega (arith, firstFrom-le 0 n)
+
+  pub first-is : (n : ℕ) → first p n < n → p (first p n) ≡ true
+  first-is n h = firstFrom-is 0 n (omega arith)
+
+  pub first-before : (n i : ℕ) → i < first p n → p i ≡ false
+  first-before n i h = firstFrom-before 0 n i (omega arith) h
 
   -- The turns of a search of n numbers that stands at i.
   pub first-skip : (n i : ℕ) → i < n → p i ≡ false → firstFrom p i (n - i) ≡ firstFrom p (i + 1) (n - (i + 1))

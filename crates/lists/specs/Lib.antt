@@ -3,5 +3,6 @@ pub mod AnyLaws
 pub mod Base
 pub mod CountLaws
 pub mod FirstLaws
+pub mod IntegerLaws
 pub mod OverLaws
 pub mod TabLaws
