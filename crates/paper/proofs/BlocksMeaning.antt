@@ -66,9 +66,9 @@ module _ (n : ℕ) (t : Rows) where
   run-first (suc m) q = go (t m) refl (run-first m)
     where
       go :
-        (v : Bool) → t m ≡ v →
-        (t m ≡ true → (b : ℕ) × (b ≤ m) × (begins t b ≡ true) × ((j : ℕ) → b ≤ j → j ≤ m → t j ≡ true)) →
-        (b : ℕ) × (b ≤ suc m) × (begins t b ≡ true) × ((j : ℕ) → b ≤ j → j ≤ suc m → t j ≡ true)
+          (v : Bool) → t m ≡ v →
+          (t m ≡ true → (b : ℕ) × (b ≤ m) × (begins t b ≡ true) × ((j : ℕ) → b ≤ j → j ≤ m → t j ≡ true)) →
+          (b : ℕ) × (b ≤ suc m) × (begins t b ≡ true) × ((j : ℕ) → b ≤ j → j ≤ suc m → t j ≡ true)
       go true e ih = let r = ih e in (r .0, omega (arith, r .1), r .2, λ j g l. at j g (decLt m j) l)
         where
           at : (j : ℕ) → ih e .0 ≤ j → Dec (m < j) → j ≤ suc m → t j ≡ true

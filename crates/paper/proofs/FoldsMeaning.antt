@@ -56,8 +56,8 @@ module _ {bs : List ℕ} {N n : ℕ} (w : Borders bs N n) where
   border-le f g h =
       le-ind (λ m. m ≤ N → border bs f ≤ border bs m) (λ l. omega arith)
       (λ m k ih l.
-        let z : border bs m < border bs (suc m) = rw add-one at (w .rise m (omega arith)) in
-        omega (arith, ih (omega arith)))
+      let z : border bs m < border bs (suc m) = rw add-one at (w .rise m (omega arith)) in
+      omega (arith, ih (omega arith)))
       g h
 
   -- Folds are in order: a row of an earlier fold comes before a row of a later one.
@@ -86,6 +86,7 @@ module _ {bs : List ℕ} {N n : ℕ} (w : Borders bs N n) where
           le-zero : Dec (0 < N) → 0 < N
           le-zero (yes l) = l
           le-zero (no k) = let z : N ≡ 0 = omega arith in absurd (omega (arith, w .begin, rw z at (w .end)))
+
       go : Dec (foldOf bs N r < N) → foldOf bs N r < N
       go (yes l) = l
       go (no k) =
@@ -146,13 +147,14 @@ even-borders n N h k =
       long = length-tab (evenBorder n N) (N + 1);
       begin = border-even n N 0 (omega arith) ∙ zero-is;
       rise = λ f l.
-        rw (border-even n N f (omega arith), border-even n N (f + 1) (omega arith), evenBorder-size n N f)
-        (omega (arith, some));
-      end = border-even n N N (omega arith) ∙ evenBorder-all n N h
+          rw (border-even n N f (omega arith), border-even n N (f + 1) (omega arith), evenBorder-size n N f)
+          (omega (arith, some));
+      end = border-even n N N (omega arith) ∙ evenBorder-all n N h;
     }
   where
     zero-is : evenBorder n N 0 ≡ 0
     zero-is = rw (evenBorder-closed n N 0) (omega arith)
+
     some : 1 ≤ n / N
     some = le-div-iff-mul-le h .1 (omega arith)
 
