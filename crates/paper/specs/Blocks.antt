@@ -5,7 +5,8 @@ use mathlib.Core.Bool.{Bool, _&&_, not}
 use Prim.Native.Nat.{ℕ, zero, suc, _-_}
 use lib.IntN.{ℤ}
 use Rattle.lists.specs.Base.{firstFrom, over}
-use Rattle.paper.specs.Spans.{Table, Span, later}
+use Rattle.paper.specs.declared.span.Span.{Span}
+use Rattle.paper.specs.Spans.{Table, later}
 use Rattle.paper.specs.Folds.{Rows}
 
 -- Row b begins a block of the test rows t.

@@ -5,7 +5,8 @@ use mathlib.Core.List.{List}
 use Prim.Native.Nat.{ℕ}
 use lib.ListN.{length, getD}
 use Rattle.lists.specs.Base.{tab, count, any, bit}
-use Rattle.paper.specs.Spans.{Span, Table, overlaps, drops}
+use Rattle.paper.specs.declared.span.Span.{Span}
+use Rattle.paper.specs.Spans.{Table, overlaps, drops}
 use Rattle.paper.specs.Folds.{fold, evenBorders}
 
 -- Entry i of the training list overlaps some entry of the test list.

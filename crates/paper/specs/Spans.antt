@@ -6,11 +6,7 @@ use Prim.Native.Nat.{ℕ}
 use lib.IntN.{ℤ, pos}
 use lib.Signed.{leZ, ltZ}
 use lib.ListN.{length, getD}
-
--- The label of a row, from its start to its end.
-pub record Span : Type 0 where
-  pub start : ℤ
-  pub end : ℤ
+use Rattle.paper.specs.declared.span.Span.{Span}
 
 -- A table: how many rows, and the span of each.
 pub record Table : Type 0 where
@@ -34,8 +30,12 @@ unfoldable pub later : ℤ → ℤ → ℤ
 later a b = cond (ltZ a b) b a
 
 -- Spans a and b overlap when a.start ≤ b.end and b.start ≤ a.end. Touching is overlap.
+abbrev pub overlap : Span → Span → Bool
+overlap a b = reaches (a .start) (b .end) && reaches (b .start) (a .end)
+
+-- The same, as the table measures its spans.
 abbrev pub overlaps : Table → Span → Span → Bool
-overlaps T a b = reaches (a .start) (b .end) && reaches (b .start) (a .end)
+overlaps T a b = overlap a b
 
 -- A span that does not end before its start. Refusal 4 is given for one that does.
 abbrev pub good : Table → Span → Bool

@@ -4,6 +4,7 @@ pub mod answers;
 pub mod numbers;
 pub mod refusal;
 pub mod settings;
+pub mod span;
 
 pub use answers::Counted;
 pub use answers::Counts;
@@ -21,3 +22,4 @@ pub use numbers::PathNumber;
 pub use numbers::SplitNumber;
 pub use refusal::Refusal;
 pub use settings::Settings;
+pub use span::Span;
