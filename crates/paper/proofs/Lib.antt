@@ -1,0 +1,2 @@
+-- The laws of the definitions in specs/.
+pub mod SetsExamples

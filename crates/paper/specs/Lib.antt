@@ -1,0 +1,3 @@
+-- The definitions of document 01.
+pub mod Sets
+pub mod Paths
