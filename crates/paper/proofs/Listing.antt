@@ -99,14 +99,14 @@ unfolding listing
 entry-first f n k i h =
     let lt : i < length (listing (suc f) n k) = rw listing-length h in
     List·getD-append (each f (listing (suc f) n k)) (listing (suc f) n (suc k)) [] i (rw each-length lt)
-        ∙ each-at f (listing (suc f) n k) i lt
+    ∙ each-at f (listing (suc f) n k) i lt
 
 -- .. and after them those that don't.
 pub entry-second : (f n k i : ℕ) → getD (listing f (suc n) (suc k)) (choose n k + i) [] ≡ getD (listing (suc f) n (suc k)) i []
 unfolding listing
 entry-second f n k i =
     rw (← listing-length (suc f) n k, ← each-length f (listing (suc f) n k))
-        (getD-append-add (each f (listing (suc f) n k)) (listing (suc f) n (suc k)) i [])
+    (getD-append-add (each f (listing (suc f) n k)) (listing (suc f) n (suc k)) i [])
 
 -- How many sets hold a fold, by part
 
@@ -138,10 +138,12 @@ unfolding testsOf listing holds
 testsOf-below f n zero g h = refl
 testsOf-below f zero (suc k) g h = refl
 testsOf-below f (suc n) (suc k) g h =
-    rw (testsOf-append,
-        testsOf-other f g (listing (suc f) n k) (omega arith),
-        testsOf-below (suc f) n k g (omega arith),
-        testsOf-below (suc f) n (suc k) g (omega arith))
+    rw (
+      testsOf-append,
+      testsOf-other f g (listing (suc f) n k) (omega arith),
+      testsOf-below (suc f) n k g (omega arith),
+      testsOf-below (suc f) n (suc k) g (omega arith),
+    )
 
 -- Every fold of the n from f on is in as many sets as any other.
 pub testsOf-hold : (f n k g : ℕ) → f ≤ g → g < f + n → testsOf g (listing f n k) ≡ hold n k
