@@ -1,4 +1,5 @@
 -- The laws of the definitions in specs/.
 pub mod Listing
+pub mod ListingMeaning
 pub mod PathsMeaning
 pub mod SetsExamples
