@@ -2,4 +2,5 @@
 pub mod Listing
 pub mod ListingMeaning
 pub mod PathsMeaning
+pub mod Rows
 pub mod SetsExamples

@@ -1,17 +1,16 @@
 -- Laws of `choose`, `listing` and `testsOf`, by part: what holds of the sets with the first fold and of those without it.
 -- The proofs of the code cite these; what they amount to is said in ListingMeaning and PathsMeaning.
 use mathlib.Core.Path.{_≡_, refl, sym, ap, _∙_}
-use mathlib.Core.Bool.{Bool, true, false, _||_}
+use mathlib.Core.Logic.{_≢_}
+use mathlib.Core.Bool.{true}
 use mathlib.Core.List.{List, [], _∷_, _++_}
 use Prim.Native.Nat.{ℕ, zero, suc, _+_, _-_, _≤_, _<_}
-use native.Mathlib.Nat.{not-suc-le-zero, le-of-suc-le-suc, add-assoc, add-zero, zero-add}
-use native.Mathlib.Decide.{decLe, decLt, ℕ-discrete}
+use native.Mathlib.Nat.{not-suc-le-zero, le-of-suc-le-suc, add-zero, zero-add}
+use native.Mathlib.Decide.{decLe, ℕ-discrete}
 use native.Mathlib.Omega.{arith}
 use borrow.Author.Tests.{eq-eqb, ne-eqb}
-use lib.Dec.{eqb}
 use lib.ListN.{length, getD, take, length-append, List·getD-append}
 use lib.Seq.{getD-append-add}
-use Rattle.lists.specs.Base.{bit}
 use Rattle.paper.specs.Sets.{choose, each, listing}
 use Rattle.paper.specs.Paths.{holds, testsOf}
 
@@ -30,21 +29,21 @@ choose-room n k i h = go (decLe k n)
     go (yes le) = le
     go (no gt) = omega (arith, choose-past n k (omega arith))
 
-pub choose-all : (n : ℕ) → choose n n ≡ 1
+pub choose-self : (n : ℕ) → choose n n ≡ 1
 unfolding choose
-choose-all zero = refl
-choose-all (suc n) = omega (arith, choose-all n, choose-past n (suc n) (omega arith))
+choose-self zero = refl
+choose-self (suc n) = omega (arith, choose-self n, choose-past n (suc n) (omega arith))
 
 choose-halves : (n a b : ℕ) → a + b ≡ n → choose n a ≡ choose n b
 unfolding choose
-choose-halves n zero b e = rw (← zero-add b, e, choose-all)
-choose-halves n (suc a) zero e = rw (← add-zero (suc a), e, choose-all)
+choose-halves n zero b e = rw (← zero-add b, e, choose-self)
+choose-halves n (suc a) zero e = rw (← add-zero (suc a), e, choose-self)
 choose-halves zero (suc a) (suc b) e = absurd (omega arith)
 choose-halves (suc n) (suc a) (suc b) e =
     omega (arith, choose-halves n a (suc b) (omega arith), choose-halves n (suc a) b (omega arith))
 
-pub choose-mirror : (n k : ℕ) → k ≤ n → choose n k ≡ choose n (n - k)
-choose-mirror n k h = choose-halves n k (n - k) (omega arith)
+pub choose-symmetric : (n k : ℕ) → k ≤ n → choose n k ≡ choose n (n - k)
+choose-symmetric n k h = choose-halves n k (n - k) (omega arith)
 
 -- How many k-element sets of n folds hold a given one of these folds.
 unfoldable pub hold : ℕ → ℕ → ℕ
@@ -119,7 +118,7 @@ pub holds-first : (f : ℕ) (s : List ℕ) → holds f (f ∷ s) ≡ true
 unfolding holds
 holds-first f s = rw (eq-eqb f f refl)
 
-pub holds-other : (f g : ℕ) (s : List ℕ) → (f ≡ g → ⊥) → holds g (f ∷ s) ≡ holds g s
+pub holds-other : (f g : ℕ) (s : List ℕ) → f ≢ g → holds g (f ∷ s) ≡ holds g s
 unfolding holds
 holds-other f g s ne = rw (ne-eqb f g ne)
 
@@ -128,7 +127,7 @@ unfolding testsOf each
 testsOf-same f [] = refl
 testsOf-same f (s ∷ ss) = rw holds-first (omega (arith, testsOf-same f ss))
 
-pub testsOf-other : (f g : ℕ) (ss : List (List ℕ)) → (f ≡ g → ⊥) → testsOf g (each f ss) ≡ testsOf g ss
+pub testsOf-other : (f g : ℕ) (ss : List (List ℕ)) → f ≢ g → testsOf g (each f ss) ≡ testsOf g ss
 unfolding testsOf each
 testsOf-other f g [] ne = refl
 testsOf-other f g (s ∷ ss) ne = rw (holds-other f g s ne, testsOf-other f g ss ne)

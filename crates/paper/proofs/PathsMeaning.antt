@@ -1,15 +1,16 @@
 -- What `nth` and the paths mean: `nth g ss p` is the p-th of the sets ss that hold g, the only one,
 -- and along the paths every split serves each fold that it tests exactly once.
-use mathlib.Core.Path.{_≡_, refl, sym, subst, _∙_}
+use mathlib.Core.Path.{_≡_, refl, _∙_}
 use mathlib.Core.Logic.{_≢_}
 use mathlib.Core.Bool.{Bool, true, false, _&&_, and-eq-true-iff}
 use mathlib.Core.List.{List, [], _∷_, _++_}
 use Prim.Native.Nat.{ℕ, zero, suc, _+_, _-_, _≤_, _<_, zero-le}
+use native.Mathlib.Nat.{zero-add}
 use native.Mathlib.Decide.{decLt, ℕ-discrete}
 use native.Mathlib.Omega.{arith}
 use borrow.Author.Tests.{eqb-true, eq-eqb}
 use lib.Dec.{eqb}
-use lib.ListN.{length, getD, take, drop, length-append, List·getD-append}
+use lib.ListN.{length, getD, take, length-append, List·getD-append}
 use lib.Seq.{take-append-le, take-append-add, getD-append-add, length-take-le, take-length, take-suc, take-add}
 use Rattle.lists.specs.Base.{bit, firstFrom}
 use Rattle.paper.specs.Sets.{choose, each, listing, entry}
@@ -57,24 +58,39 @@ pth-below {ss} {g} {p} {i} w =
 -- By part: where the p-th set that holds g stands in a listing
 
 pub pth-append-left : (ss rs : List (List ℕ)) {g p i : ℕ} → Pth ss g p i → Pth (ss ++ rs) g p i
-pth-append-left ss rs {i = i} w =
-    record { within = rw length-append (omega arith); tests = rw (List·getD-append ss rs [] i (w .within)) (w .tests); before = rw (take-append-le i ss rs (omega arith)) (w .before) }
+pth-append-left ss rs {i = i} w = record {
+  within = rw length-append (omega arith);
+  tests = rw (List·getD-append ss rs [] i (w .within)) (w .tests);
+  before = rw (take-append-le i ss rs (omega arith)) (w .before);
+}
 
 pub pth-append-right : (ss rs : List (List ℕ)) {g p i : ℕ} → Pth rs g p i → Pth (ss ++ rs) g (testsOf g ss + p) (length ss + i)
-pth-append-right ss rs w =
-    record { within = rw length-append (omega arith); tests = rw getD-append-add (w .tests); before = rw (take-append-add, testsOf-append, w .before) }
+pth-append-right ss rs w = record {
+  within = rw length-append (omega arith);
+  tests = rw getD-append-add (w .tests);
+  before = rw (take-append-add, testsOf-append, w .before);
+}
 
 pub pth-each : (f : ℕ) (ss : List (List ℕ)) {g p i : ℕ} → f ≢ g → Pth ss g p i → Pth (each f ss) g p i
-pth-each f ss {g} {p} {i} ne w =
-    record { within = rw each-length (w .within); tests = rw (each-at f ss i (w .within), holds-other f g (getD ss i []) ne) (w .tests); before = rw (each-take, testsOf-other f g (take i ss) ne) (w .before) }
+pth-each f ss {g} {p} {i} ne w = record {
+  within = rw each-length (w .within);
+  tests = rw (each-at f ss i (w .within), holds-other f g (getD ss i []) ne) (w .tests);
+  before = rw (each-take, testsOf-other f g (take i ss) ne) (w .before);
+}
 
 -- g is the first fold: the place is the number.
 pub pth-here : (f n k p : ℕ) → p < choose n k → Pth (listing f (suc n) (suc k)) f p p
 unfolding listing choose
 pth-here f n k p h =
-    let lt : p < length (listing (suc f) n k) = rw listing-length h in
-    let le : p ≤ length (each f (listing (suc f) n k)) = rw each-length (omega arith) in
-    record { within = rw (listing-length f (suc n) (suc k)) (omega arith); tests = rw (entry-first f n k p h) (holds-first f (getD (listing (suc f) n k) p [])); before = rw (take-append-le p (each f (listing (suc f) n k)) (listing (suc f) n (suc k)) le, each-take, testsOf-same) (length-take-le p (listing (suc f) n k) (omega arith)) }
+    let ss = listing (suc f) n k in
+    let lt : p < length ss = rw listing-length h in
+    let le : p ≤ length (each f ss) = rw each-length (omega arith) in
+    record {
+      within = rw (listing-length f (suc n) (suc k)) (omega arith);
+      tests = rw (entry-first f n k p h) (holds-first f (getD ss p []));
+      before = rw (take-append-le p (each f ss) (listing (suc f) n (suc k)) le, each-take, testsOf-same)
+          (length-take-le p ss (omega arith));
+    }
 
 -- g is a later fold, and its p-th set holds the first fold ..
 pub pth-first : (f n k : ℕ) {g p i : ℕ} → f < g → Pth (listing (suc f) n k) g p i → Pth (listing f (suc n) (suc k)) g p i
@@ -93,6 +109,10 @@ pth-second f n k {g} lo hi w =
 
 -- `nth` finds it
 
+fails : (b : Bool) → (b ≡ true → ⊥) → b ≡ false
+fails true h = absurd (h refl)
+fails false h = refl
+
 first-at : (t : ℕ → Bool) (b m i : ℕ) → b ≤ i → i < b + m → t i ≡ true → ((j : ℕ) → j < i → t j ≡ false) → firstFrom t b m ≡ i
 unfolding firstFrom
 first-at t b zero i lo hi here earlier = absurd (omega arith)
@@ -102,19 +122,25 @@ first-at t b (suc m) i lo hi here earlier = go (ℕ-discrete b i) (λ lt. first-
     go (yes e) later = rw (e, here)
     go (no ne) later = rw (earlier b (omega arith)) (later (omega arith))
 
+first-none : (t : ℕ → Bool) (b m : ℕ) → ((j : ℕ) → j < b + m → t j ≡ false) → firstFrom t b m ≡ b + m
+unfolding firstFrom
+first-none t b zero never = omega arith
+first-none t b (suc m) never = rw (never b (omega arith)) (omega (arith, first-none t (suc b) m (λ j lt. never j (omega arith))))
+
+-- The test whose first place `nth` is.
+abbrev passes : List (List ℕ) → ℕ → ℕ → ℕ → Bool
+passes ss g p i = holds g (getD ss i []) && eqb (testsBefore g ss i) p
+
+passes-pth : (ss : List (List ℕ)) (g p i : ℕ) → i < length ss → passes ss g p i ≡ true → Pth ss g p i
+passes-pth ss g p i h t =
+    let b = and-eq-true-iff (holds g (getD ss i [])) (eqb (testsBefore g ss i) p) .0 t in
+    record { within = h; tests = b .0; before = eqb-true (testsBefore g ss i) p (b .1) }
+
 pub nth-pth : {ss : List (List ℕ)} {g p i : ℕ} → Pth ss g p i → nth g ss p ≡ i
 nth-pth {ss} {g} {p} {i} w =
-    first-at test 0 (length ss) i zero-le (omega arith) (rw (w .tests, eq-eqb (testsBefore g ss i) p (w .before))) (λ j lt. other j lt (test j) refl)
-  where
-    test : ℕ → Bool
-    test j = holds g (getD ss j []) && eqb (testsBefore g ss j) p
-
-    other : (j : ℕ) → j < i → (b : Bool) → test j ≡ b → b ≡ false
-    other j lt false e = refl
-    other j lt true e =
-        let h = and-eq-true-iff (holds g (getD ss j [])) (eqb (testsBefore g ss j) p) .0 e in
-        let v : Pth ss g p j = record { within = omega arith; tests = h .0; before = eqb-true (testsBefore g ss j) p (h .1) } in
-        absurd (omega (arith, pth-one v w))
+    first-at (passes ss g p) 0 (length ss) i zero-le (omega arith)
+    (rw (w .tests, eq-eqb (testsBefore g ss i) p (w .before)))
+    (λ j lt. fails (passes ss g p j) (λ t. omega (arith, pth-one (passes-pth ss g p j (omega arith) t) w)))
 
 pth-cons : (s : List ℕ) {ss : List (List ℕ)} {g p q i : ℕ} → bit (holds g s) + p ≡ q → Pth ss g p i → Pth (s ∷ ss) g q (suc i)
 unfolding testsOf
@@ -133,38 +159,49 @@ pth-some (s ∷ ss) g p h = go (holds g s) refl p h (pth-some ss g)
     go true e (suc p) h more = let r = more p (omega arith) in (suc (r .0), pth-cons s (rw e (omega arith)) (r .1))
     go false e p h more = let r = more p (omega arith) in (suc (r .0), pth-cons s (rw e (omega arith)) (r .1))
 
--- `nth` finds a place with all three properties; by pth-one it is the only one.
+-- Where p sets come before it, `nth` is a place with all three properties, and by pth-one the only one ..
 pub nth-is : (ss : List (List ℕ)) (g p : ℕ) → p < testsOf g ss → Pth ss g p (nth g ss p)
 nth-is ss g p h = let r = pth-some ss g p h in rw (nth-pth (r .1)) (r .1)
 
--- Every place that holds g is the nth of one number, the count of the places before it that hold g.
+-- .. and where not, it is the length of the list.
+pub nth-none : (ss : List (List ℕ)) (g p : ℕ) → testsOf g ss ≤ p → nth g ss p ≡ length ss
+nth-none ss g p h =
+    first-none (passes ss g p) 0 (length ss)
+    (λ j lt. fails (passes ss g p j) (λ t. omega (arith, pth-below (passes-pth ss g p j (omega arith) t))))
+    ∙ zero-add (length ss)
+
+-- Every place that holds g is the nth of the count of those before it, and of no other number.
 pub nth-covers : (ss : List (List ℕ)) (g i : ℕ) → i < length ss → holds g (getD ss i []) ≡ true
     → (testsBefore g ss i < testsOf g ss) × (nth g ss (testsBefore g ss i) ≡ i)
 nth-covers ss g i h t =
     let w : Pth ss g (testsBefore g ss i) i = record { within = h; tests = t; before = refl } in
     (pth-below w, nth-pth w)
 
--- The paths
-
--- Each fold is tested in C(N-1,k-1) splits, which is how many paths there are.
-pub paths-count : (N k g : ℕ) → g < N → 1 ≤ k → testsOf g (listing 0 N k) ≡ paths N k
-paths-count N k g h q = testsOf-hold 0 N k g zero-le (omega arith) ∙ hold-choose N k (omega arith) q
-
--- Path p takes for the fold g the p-th split that tests g.
-pub splitOnPath-is : (N k p g : ℕ) → g < N → 1 ≤ k → p < paths N k → Pth (listing 0 N k) g p (splitOnPath N k p g)
-splitOnPath-is N k p g h q r = nth-is (listing 0 N k) g p (omega (arith, paths-count N k g h q))
-
--- Two paths take different splits for a fold ..
-pub paths-differ : (N k p q g : ℕ) → g < N → 1 ≤ k → p < paths N k → q < paths N k
-    → splitOnPath N k p g ≡ splitOnPath N k q g → p ≡ q
-paths-differ N k p q g h one hp hq e =
-    let a = splitOnPath-is N k p g h one hp in
-    let b = splitOnPath-is N k q g h one hq in
+pub nth-differs : (ss : List (List ℕ)) (g p q : ℕ) → p < testsOf g ss → q < testsOf g ss → nth g ss p ≡ nth g ss q → p ≡ q
+nth-differs ss g p q hp hq e =
+    let a = nth-is ss g p hp in
+    let b = nth-is ss g q hq in
     cc
 
--- .. and every split that tests the fold is taken for it by a path.
-pub paths-cover : (N k g i : ℕ) → g < N → 1 ≤ k → i < choose N k → holds g (entry N k i) ≡ true
-    → (p : ℕ) × (p < paths N k) × (splitOnPath N k p g ≡ i)
-paths-cover N k g i h one hi t =
-    let c = nth-covers (listing 0 N k) g i (rw listing-length hi) t in
-    (testsBefore g (listing 0 N k) i, rw (← paths-count N k g h one) (c .0), c .1)
+-- The paths
+
+-- Each fold is tested in C(N-1,k-1) splits, and that is how many paths there are.
+pub testsOf-paths : (N k g : ℕ) → g < N → 1 ≤ k → testsOf g (listing 0 N k) ≡ paths N k
+testsOf-paths N k g h q = testsOf-hold 0 N k g zero-le (omega arith) ∙ hold-choose N k (omega arith) q
+
+module _ (N k g : ℕ) (h : g < N) (some : 1 ≤ k) where
+  -- Path p takes for the fold g the p-th split that tests g.
+  pub splitOnPath-is : (p : ℕ) → p < paths N k → Pth (listing 0 N k) g p (splitOnPath N k p g)
+  splitOnPath-is p hp = nth-is (listing 0 N k) g p (rw (testsOf-paths N k g h some) hp)
+
+  -- Two paths take different splits for it ..
+  pub splitOnPath-differs : (p q : ℕ) → p < paths N k → q < paths N k → splitOnPath N k p g ≡ splitOnPath N k q g → p ≡ q
+  splitOnPath-differs p q hp hq e =
+      nth-differs (listing 0 N k) g p q (rw (testsOf-paths N k g h some) hp) (rw (testsOf-paths N k g h some) hq) e
+
+  -- .. and every split that tests it is taken for it by a path: the count of those before it.
+  pub splitOnPath-covers : (i : ℕ) → i < choose N k → holds g (entry N k i) ≡ true
+      → (p : ℕ) × (p < paths N k) × (splitOnPath N k p g ≡ i)
+  splitOnPath-covers i hi t =
+      let c = nth-covers (listing 0 N k) g i (rw listing-length hi) t in
+      (testsBefore g (listing 0 N k) i, rw (← testsOf-paths N k g h some) (c .0), c .1)
