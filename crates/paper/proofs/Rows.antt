@@ -4,9 +4,8 @@
 use mathlib.Core.Path.{_≡_, refl}
 use mathlib.Core.Bool.{true, false}
 use mathlib.Core.List.{List, [], _∷_}
-use Prim.Native.Nat.{ℕ, zero, suc, _+_, _-_, _*_, _^_, min}
+use Prim.Native.Nat.{ℕ, zero, suc, _+_}
 use native.Mathlib.Omega.{arith}
-use lib.Dec.{ltb}
 use lib.ListN.{getD}
 use Rattle.paper.specs.Sets.{choose, tooMany}
 
@@ -39,11 +38,7 @@ row-at zero (suc k) = refl
 row-at (suc n) zero = omega (arith, next-zero 0 (row n), row-at n zero)
 row-at (suc n) (suc k) = omega (arith, next-suc 0 (row n) k, row-at n k, row-at n (suc k))
 
-pub tooMany-row : (N k : ℕ) → tooMany N k ≡ (let j = min k (N - k) in ltb (2 ^ 64 - 1) (getD (row N) j 0 * j))
-tooMany-row N k = rw row-at
-
--- The edge that 01 names. At (63,35) j is 28: without "the lesser of k and N - k" it would be refused.
+-- The edge that 01 names. At (63,35) the lesser number is 28, and 35 in its place would be refused.
 pub tooMany-edge : (tooMany 62 31 ≡ false) × (tooMany 63 28 ≡ false) × (tooMany 63 35 ≡ false) × (tooMany 64 26 ≡ false) × (tooMany 63 29 ≡ true) × (tooMany 64 27 ≡ true)
 unfolding row next
-tooMany-edge =
-    (tooMany-row 62 31, tooMany-row 63 28, tooMany-row 63 35, tooMany-row 64 26, tooMany-row 63 29, tooMany-row 64 27)
+tooMany-edge = (rw (← row-at), rw (← row-at), rw (← row-at), rw (← row-at), rw (← row-at), rw (← row-at))
