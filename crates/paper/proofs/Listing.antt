@@ -150,7 +150,9 @@ unfolding testsOf listing holds hold
 testsOf-hold f n zero g lo hi = refl
 testsOf-hold f zero (suc k) g lo hi = refl
 testsOf-hold f (suc n) (suc k) g lo hi =
-    rw testsOf-append (go (ℕ-discrete f g) (λ lt. testsOf-hold (suc f) n k g lt (omega arith)) (λ lt. testsOf-hold (suc f) n (suc k) g lt (omega arith)))
+    rw testsOf-append (go (ℕ-discrete f g)
+    (λ lt. testsOf-hold (suc f) n k g lt (omega arith))
+    (λ lt. testsOf-hold (suc f) n (suc k) g lt (omega arith)))
   where
     go : Dec (f ≡ g) → (f < g → testsOf g (listing (suc f) n k) ≡ hold n k)
         → (f < g → testsOf g (listing (suc f) n (suc k)) ≡ hold n (suc k))

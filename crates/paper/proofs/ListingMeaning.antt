@@ -134,22 +134,33 @@ pub before-differs : {s t : List ℕ} → Before s t → s ≡ t → ⊥
 before-differs (smaller lt) e = omega (arith, head-eq-of-cons-eq e)
 before-differs (same b) e = before-differs b (tail-eq-of-cons-eq e)
 
-before-later : (f e k : ℕ) (r s : List ℕ) → Rises (suc f) e s → length s ≡ suc k → Before (f ∷ r) s
-before-later f e k r [] up long = absurd (omega arith)
-before-later f e k r (a ∷ s) up long = smaller (up .0)
+rises-before : (f e k : ℕ) (r s : List ℕ) → Rises (suc f) e s → length s ≡ suc k → Before (f ∷ r) s
+rises-before f e k r [] up long = absurd (omega arith)
+rises-before f e k r (a ∷ s) up long = smaller (up .0)
+
+-- A set with the first fold, whatever its others, comes before each set without it.
+first-before : (f n k j : ℕ) (r : List ℕ) → j < choose n (suc k) → Before (f ∷ r) (getD (listing (suc f) n (suc k)) j [])
+first-before f n k j r h =
+    let up = entry-rises (suc f) n (suc k) j (suc f + n) refl h in
+    rises-before f (suc f + n) k r (getD (listing (suc f) n (suc k)) j []) up (entry-length (suc f) n (suc k) j h)
+
+-- The later of two sets is without the first fold: it comes after any with it, and `both` compares it to the others.
+second-before : (f n k i j : ℕ) → i < choose (suc n) (suc k) → j < choose n (suc k)
+    → (both : choose n k ≤ i → Before (getD (listing (suc f) n (suc k)) (i - choose n k) []) (getD (listing (suc f) n (suc k)) j []))
+    → Before (getD (listing f (suc n) (suc k)) i []) (getD (listing (suc f) n (suc k)) j [])
+second-before f n k i j hi hj both =
+    by-part (λ s. Before s (getD (listing (suc f) n (suc k)) j [])) f n k i hi
+    (λ lt. first-before f n k j (getD (listing (suc f) n k) i []) hj)
+    (λ ge lt. both ge)
 
 listing-before : (f n k i j : ℕ) → i < j → j < choose n k → Before (getD (listing f n k) i []) (getD (listing f n k) j [])
 unfolding choose
 listing-before f n zero i j lt h = absurd (omega arith)
 listing-before f zero (suc k) i j lt h = absurd (omega arith)
 listing-before f (suc n) (suc k) i j lt h =
-    by-part (λ t. Before (getD (listing f (suc n) (suc k)) i []) t) f n k j h
+    by-part (Before (getD (listing f (suc n) (suc k)) i [])) f n k j h
     (λ jlt. rw (entry-first f n k i (omega arith)) (same (listing-before (suc f) n k i j lt jlt)))
-    (λ jge jlt. by-part (λ s. Before s (getD (listing (suc f) n (suc k)) (j - choose n k) [])) f n k i (omega arith)
-    (λ ilt. before-later f (suc f + n) k (getD (listing (suc f) n k) i []) (getD (listing (suc f) n (suc k)) (j - choose n k) [])
-    (entry-rises (suc f) n (suc k) (j - choose n k) (suc f + n) refl jlt)
-    (entry-length (suc f) n (suc k) (j - choose n k) jlt))
-    (λ ige ilt. listing-before (suc f) n (suc k) (i - choose n k) (j - choose n k) (omega arith) jlt))
+    (λ jge jlt. second-before f n k i (j - choose n k) (omega arith) jlt (λ ige. listing-before (suc f) n (suc k) (i - choose n k) (j - choose n k) (omega arith) jlt))
 
 pub entry-before : (N k i j : ℕ) → i < j → j < choose N k → Before (entry N k i) (entry N k j)
 entry-before N k i j lt h = listing-before 0 N k i j lt h

@@ -159,7 +159,7 @@ pth-some (s ∷ ss) g p h = go (holds g s) refl p h (pth-some ss g)
     go true e (suc p) h more = let r = more p (omega arith) in (suc (r .0), pth-cons s (rw e (omega arith)) (r .1))
     go false e p h more = let r = more p (omega arith) in (suc (r .0), pth-cons s (rw e (omega arith)) (r .1))
 
--- Where p sets come before it, `nth` is a place with all three properties, and by pth-one the only one ..
+-- Where more than p sets hold g, `nth` is such a place, and by pth-one there is no other ..
 pub nth-is : (ss : List (List ℕ)) (g p : ℕ) → p < testsOf g ss → Pth ss g p (nth g ss p)
 nth-is ss g p h = let r = pth-some ss g p h in rw (nth-pth (r .1)) (r .1)
 

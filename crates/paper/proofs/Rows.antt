@@ -1,15 +1,15 @@
 -- Pascal's triangle row by row, a row from the one above it: as many sums as it has places.
 -- `choose` by its definition takes as many steps as it counts sets, so this is how large binomials are computed;
 -- the examples of refusal 8 are here for that reason.
-use mathlib.Core.Path.{_≡_, refl}
+use mathlib.Core.Path.{_≡_, refl, ap}
 use mathlib.Core.Bool.{true, false}
 use mathlib.Core.List.{List, [], _∷_}
 use Prim.Native.Nat.{ℕ, zero, suc, _+_}
 use native.Mathlib.Omega.{arith}
-use lib.ListN.{getD}
+use lib.ListN.{length, getD}
 use Rattle.paper.specs.Sets.{choose, tooMany}
 
--- Each number of the row added to its left neighbour, a standing left of the first.
+-- The row below: each number added to its left neighbour. `a` is the neighbour of the first.
 unfoldable pub next : ℕ → List ℕ → List ℕ
 next a [] = a ∷ []
 next a (x ∷ xs) = (a + x) ∷ next x xs
@@ -29,6 +29,16 @@ unfolding next
 next-suc a [] k = refl
 next-suc a (x ∷ xs) zero = next-zero x xs
 next-suc a (x ∷ xs) (suc k) = next-suc x xs k
+
+next-length : (a : ℕ) (xs : List ℕ) → length (next a xs) ≡ suc (length xs)
+unfolding next
+next-length a [] = refl
+next-length a (x ∷ xs) = ap suc (next-length x xs)
+
+pub row-length : (n : ℕ) → length (row n) ≡ suc n
+unfolding row
+row-length zero = refl
+row-length (suc n) = rw (next-length, row-length n)
 
 -- At every k: past the end of the row both are 0.
 pub row-at : (n k : ℕ) → getD (row n) k 0 ≡ choose n k
