@@ -5,5 +5,10 @@ pub mod ChecksMeaning
 pub mod EmbargoMeaning
 pub mod Examples
 pub mod FoldsMeaning
+pub mod Listing
+pub mod ListingMeaning
 pub mod MarksMeaning
+pub mod PathsMeaning
+pub mod Rows
+pub mod SetsExamples
 pub mod Times

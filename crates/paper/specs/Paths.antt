@@ -1,7 +1,7 @@
 -- The paths: 01, "Combinations and paths". Path p takes, for each fold g, the p-th split, from 0, that tests g.
-use mathlib.Core.Bool.{Bool, true, false, _&&_, _||_}
+use mathlib.Core.Bool.{Bool, false, _&&_, _||_}
 use mathlib.Core.List.{List, [], _∷_}
-use Prim.Native.Nat.{ℕ, zero, suc, _+_, _-_}
+use Prim.Native.Nat.{ℕ, _+_, _-_}
 use lib.Dec.{eqb}
 use lib.ListN.{length, getD, take}
 use Rattle.lists.specs.Base.{tab, bit, first}
@@ -26,7 +26,7 @@ testsBefore g ss i = testsOf g (take i ss)
 abbrev pub nth : ℕ → List (List ℕ) → ℕ → ℕ
 nth g ss p = first (λ i. holds g (getD ss i []) && eqb (testsBefore g ss i) p) (length ss)
 
--- How many paths there are.
+-- How many paths there are, for k of 1 or more.
 abbrev pub paths : ℕ → ℕ → ℕ
 paths N k = choose (N - 1) (k - 1)
 

@@ -1,6 +1,6 @@
 -- The splits: 01, "Combinations and paths", first paragraph, and refusal 8.
 -- A split is the ascending list of the folds that it tests. A fold is a plain number here.
-use mathlib.Core.Bool.{Bool, true, false, _&&_}
+use mathlib.Core.Bool.{Bool, true, _&&_}
 use mathlib.Core.List.{List, [], _∷_, _++_}
 use Prim.Native.Nat.{ℕ, zero, suc, _+_, _-_, _*_, _^_, min}
 use lib.Dec.{ltb, eqb}
@@ -17,12 +17,12 @@ unfoldable pub each : ℕ → List (List ℕ) → List (List ℕ)
 each f [] = []
 each f (s ∷ ss) = (f ∷ s) ∷ each f ss
 
--- The k-element sets of the n folds from f on: first those that hold f, then those that don't,
+-- The k-element sets of the n folds from `first` on: those that hold it come first, then those that don't,
 -- each part in the same order over the folds that remain.
 unfoldable pub listing : ℕ → ℕ → ℕ → List (List ℕ)
-listing f n zero = [] ∷ []
-listing f zero (suc k) = []
-listing f (suc n) (suc k) = each f (listing (suc f) n k) ++ listing (suc f) n (suc k)
+listing first n zero = [] ∷ []
+listing first zero (suc k) = []
+listing first (suc n) (suc k) = each first (listing (suc first) n k) ++ listing (suc first) n (suc k)
 
 -- Split i, of the splits that test k of N folds.
 abbrev pub entry : ℕ → ℕ → ℕ → List ℕ
