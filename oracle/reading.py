@@ -397,11 +397,22 @@ def engine_refusal(call, table, args):
         bits = "0" * 16
     else:
         n, count, k, bits = len(table), args[0], args[1], args[-2]
-    small = (lambda: check_2_alone(count))
-    large = (lambda: check_2(n, count))
-    spans = (lambda: None if call == "JN" else check_4(table))
-    fraction = (lambda: check_3(bits))
-    tested = (lambda: check_6(count, k))
+
+    def small():
+        return check_2(n, count) if count < 2 else None
+
+    def large():
+        return check_2(n, count)
+
+    def spans():
+        return ["4", "-"] if call != "JN" and check_4(table) else None
+
+    def fraction():
+        return check_3(bits)
+
+    def tested():
+        return check_6(count, k)
+
     orders = {
         "KP": [spans, fraction, small, large],
         "CP": [spans, small, tested, fraction, large],
@@ -409,10 +420,6 @@ def engine_refusal(call, table, args):
         "RP": [spans, fraction],
     }
     return first_of(lambda: check_1(n), *orders[call])
-
-
-def number_only(answer):
-    return answer[:2] if answer[0] == "X" else answer
 
 
 def difference(call, table, args, said, ours):
@@ -423,13 +430,10 @@ def difference(call, table, args, said, ours):
         if ours == ["X", "17"]:
             return "E where 01 gives this split 17"
         return "E where 01 refuses another split only"
-    if call == "PC" and ours == ["X", "8"]:
-        return "the engine counts paths that 01 refuses with 8" * (
-            said == ["V", str(paths_of(*args))]
-        ) or None
-    if call in ("KP", "CP", "RP", "JN") and ours[0] == "X" and said[0] == "X":
-        by_engine = engine_refusal(call, table, args)
-        if by_engine and number_only(by_engine) == number_only(said):
+    if call == "PC" and ours == ["X", "8"] and said == ["V", str(paths_of(*args))]:
+        return "the engine counts paths that 01 refuses with 8"
+    if call in ("KP", "CP", "RP", "JN") and ours[0] == "X" and said[1:2] != ours[1:2]:
+        if said == engine_refusal(call, table, args):
             return f"engine's check order: {said[1]} where 01 gives {ours[1]}"
     return None
 

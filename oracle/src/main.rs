@@ -2,6 +2,7 @@
 
 mod ask;
 mod engine;
+mod findings;
 mod joins;
 mod reach;
 mod record;
@@ -23,6 +24,9 @@ fn main() -> ExitCode {
         ["ask"] => ask_all(),
         ["record", seed] => record(seed, false),
         ["differences", seed] => record(seed, true),
+        ["findings"] => findings::print(),
+        // Used by `findings` alone: it may end this process.
+        ["probe", folds, tested] => probe(folds, tested),
         _ => Err("usage: oracle ask | record SEED | differences SEED | findings".to_string()),
     };
     match done {
@@ -50,4 +54,10 @@ fn record(seed: &str, differing: bool) -> Result<(), String> {
     let mut text = record::recorded(seed).lines(differing).join("\n");
     text.push('\n');
     std::io::stdout().write_all(text.as_bytes()).map_err(|e| e.to_string())
+}
+
+fn probe(folds: &str, tested: &str) -> Result<(), String> {
+    let number = |word: &str| word.parse().map_err(|_| format!("no number: {word}"));
+    findings::probe(number(folds)?, number(tested)?);
+    Ok(())
 }

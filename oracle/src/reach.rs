@@ -9,7 +9,7 @@ const SPLITS: u128 = 100_000;
 const STEPS: u128 = 2_000_000;
 /// Bytes that one allocation may have. Above, it fails and the process ends with the message of
 /// the standard library.
-const BYTES: usize = 1 << 30;
+pub const BYTES: usize = 1 << 30;
 
 /// The system's allocator with a ceiling.
 pub struct Ceiling;
@@ -30,9 +30,8 @@ pub fn choose(n: usize, k: usize) -> u128 {
     if k > n {
         return 0;
     }
-    let step = |product: u128, i: usize| {
-        Some(product.checked_mul((n - i) as u128)? / (i as u128 + 1))
-    };
+    let step =
+        |product: u128, i: usize| Some(product.checked_mul((n - i) as u128)? / (i as u128 + 1));
     (0..k.min(n - k)).try_fold(1, step).unwrap_or(u128::MAX)
 }
 

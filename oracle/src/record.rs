@@ -259,8 +259,7 @@ impl Recorder {
     }
 
     fn fold_counts(&mut self) {
-        let fractions: Vec<u64> =
-            GOOD.iter().step_by(5).map(|f| f.to_bits()).chain(BAD).collect();
+        let fractions: Vec<u64> = GOOD.iter().step_by(5).map(|f| f.to_bits()).chain(BAD).collect();
         for folds in self.edges() {
             for &bits in &fractions {
                 let split = self.rng.pick(&[0, 1, folds.saturating_sub(1), folds, usize::MAX]);
@@ -483,7 +482,9 @@ impl Recorder {
         let fewer = (folds.saturating_sub(1), tested.saturating_sub(1));
         for (call, end) in [("CF", choose(folds, tested)), ("PA", choose(fewer.0, fewer.1))] {
             let end = end as usize;
-            let mut numbers: Vec<usize> = if whole { (0..end).collect() } else {
+            let mut numbers: Vec<usize> = if whole {
+                (0..end).collect()
+            } else {
                 vec![0, end / 3, end / 2, end.saturating_sub(1)]
             };
             if !whole && end > 4 {

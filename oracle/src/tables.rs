@@ -21,9 +21,10 @@ pub enum Kind {
     Falling,
     Clock,
     Edges,
+    Few,
 }
 
-pub const KINDS: [Kind; 11] = [
+pub const KINDS: [Kind; 12] = [
     Kind::Apart,
     Kind::Sorted,
     Kind::Touching,
@@ -35,23 +36,12 @@ pub const KINDS: [Kind; 11] = [
     Kind::Falling,
     Kind::Clock,
     Kind::Edges,
+    Kind::Few,
 ];
 
 /// Fractions that are accepted; the names are those of 01's examples on the edges.
-pub const GOOD: [f64; 12] = [
-    0.0,
-    -0.0,
-    5e-324,
-    0.01,
-    0.05,
-    0.07,
-    0.1,
-    0.25,
-    1.0 / 3.0,
-    0.5,
-    0.9,
-    0.999_999_999_999_999_9,
-];
+pub const GOOD: [f64; 12] =
+    [0.0, -0.0, 5e-324, 0.01, 0.05, 0.07, 0.1, 0.25, 1.0 / 3.0, 0.5, 0.9, 0.999_999_999_999_999_9];
 
 /// Bits of fractions that are refused: 1, the next, 2, the largest, the infinities, NaNs quiet
 /// and signalling of both signs, the smallest below 0, -0.5, -1.
@@ -78,32 +68,9 @@ pub fn made(rng: &mut Rng, kind: Kind, n: usize) -> Rows {
 }
 
 fn span(rng: &mut Rng, kind: Kind, n: i64, i: i64, clock: &mut i64) -> (i64, i64) {
-    let before = *clock;
     match kind {
-        Kind::Apart => {
-            let gap = rng.within(2, 6);
-            *clock += gap as i64;
-            (before, before + rng.below(gap) as i64)
-        }
-        Kind::Sorted => {
-            *clock += rng.below(4) as i64;
-            (before, before + rng.below(6) as i64)
-        }
-        Kind::Touching => {
-            *clock += rng.within(1, 3) as i64;
-            (before, *clock)
-        }
-        Kind::Points => {
-            *clock += rng.below(2) as i64;
-            (before, before)
-        }
-        Kind::Equal => (before, before + 3),
+        Kind::Equal => (*clock, *clock + 3),
         Kind::Nested => (i, 2 * n - i),
-        Kind::Long => {
-            *clock += rng.within(1, 3) as i64;
-            let long = if rng.once_in(5) { n } else { 0 };
-            (before, before + long + rng.below(2) as i64)
-        }
         Kind::Unsorted => {
             let start = rng.below(3 * n as usize) as i64 - n;
             (start, start + rng.below(4) as i64)
@@ -114,11 +81,36 @@ fn span(rng: &mut Rng, kind: Kind, n: i64, i: i64, clock: &mut i64) -> (i64, i64
             let start = 1_704_186_000_000_000 + i * 3_600_000_000;
             (start, start + rng.within(1, 3) as i64 * 3_600_000_000)
         }
-        Kind::Edges => {
-            let (a, b) = (edge(rng), edge(rng));
-            (a.min(b), a.max(b))
-        }
+        Kind::Edges => in_order(edge(rng), edge(rng)),
+        Kind::Few => in_order(rng.below(5) as i64, rng.below(5) as i64),
+        _ => in_turn(rng, kind, n, clock),
     }
+}
+
+/// A span of the kinds whose starts follow one another on the clock.
+fn in_turn(rng: &mut Rng, kind: Kind, n: i64, clock: &mut i64) -> (i64, i64) {
+    let start = *clock;
+    let (step, length) = match kind {
+        Kind::Apart => {
+            let gap = rng.within(2, 6);
+            (gap, rng.below(gap))
+        }
+        Kind::Sorted => (rng.below(4), rng.below(6)),
+        Kind::Touching => {
+            let gap = rng.within(1, 3);
+            (gap, gap)
+        }
+        Kind::Long => {
+            (rng.within(1, 3), rng.below(2) + if rng.once_in(5) { n as usize } else { 0 })
+        }
+        _ => (rng.below(2), 0),
+    };
+    *clock += step as i64;
+    (start, start + length as i64)
+}
+
+fn in_order(a: i64, b: i64) -> (i64, i64) {
+    (a.min(b), a.max(b))
 }
 
 /// A time at or near an end of what chrono holds, or near 0.
