@@ -246,8 +246,25 @@ impl Recorder {
             self.fold_counts();
             self.tested_counts();
             self.rolling_sizes();
+            self.lists_at_edges();
         }
         self.too_many();
+    }
+
+    fn lists_at_edges(&mut self) {
+        let (n, far) = (self.rows.len(), usize::MAX);
+        for lists in [
+            "0\t0".to_string(),
+            format!("1\t{n}\t0"),
+            format!("0\t1\t{far}"),
+            format!("1\t{far}\t1\t{n}"),
+            format!("2\t{n}\t{far}\t1\t0"),
+        ] {
+            self.ask(format!("OC\t{lists}"));
+        }
+        for tests in ["0", "1\t0\t0", "1\t1\t0", "2\t0\t0\t3\t4"] {
+            self.ask(format!("TT\t{tests}"));
+        }
     }
 
     fn edges(&self) -> Vec<usize> {
