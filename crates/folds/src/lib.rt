@@ -52,7 +52,10 @@ pub fn contiguous_fold_bounds(n: usize, folds: usize, fold: FoldNumber) -> FoldB
 pub fn fold_of_row(n: usize, folds: usize, row: usize) -> RowFold
     ensures { λ r. ⌜ r ≡ foldFound n folds row ⌝ }
 {
-    if row < n && 0 < folds {
+    if n <= row {
+        return RowFold::NoSuchRow;
+    }
+    if 0 < folds {
         RowFold::Fold(FoldNumber(walk(n, folds, row)))
     } else {
         RowFold::NoSuchRow

@@ -5,4 +5,5 @@ pub mod CountLaws
 pub mod FirstLaws
 pub mod IntegerLaws
 pub mod OverLaws
+pub mod SignedLaws
 pub mod TabLaws

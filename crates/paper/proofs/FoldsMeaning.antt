@@ -4,7 +4,7 @@ use mathlib.Core.Path.{_≡_, refl, sym, ap, _∙_}
 use mathlib.Core.Bool.{Bool, true, false, _&&_, and-false}
 use mathlib.Core.List.{List}
 use Prim.Native.Nat.{ℕ, zero, suc, _+_, _-_, _*_, _/_, _%_, _≤_, _<_, min}
-use native.Mathlib.Nat.{suc-mul, div-add-mod', mod-lt, mul-comm, le-div-iff-mul-le}
+use native.Mathlib.Nat.{suc-mul, div-add-mod, div-add-mod', mod-lt, mul-comm, mul-le-mul-right, le-div-iff-mul-le}
 use native.Mathlib.Numerals.{add-one}
 use native.Mathlib.Omega.{arith}
 use native.Mathlib.Decide.{decLt, le-ind}
@@ -127,6 +127,10 @@ unfolding evenBorder
 evenBorder-closed n N zero = omega arith
 evenBorder-closed n N (suc f) =
     rw (evenBorder-closed n N f, suc-mul) (omega (arith, bit-min f (n % N)))
+
+-- No border lies past the rows, and none of its two parts does.
+pub evenBorder-le : (n N f : ℕ) → f ≤ N → f * (n / N) + min f (n % N) ≤ n
+evenBorder-le n N f h = omega (arith, mul-le-mul-right (n / N) h, div-add-mod n N)
 
 pub border-even : (n N f : ℕ) → f ≤ N → border (evenBorders n N) f ≡ evenBorder n N f
 border-even n N f h = getD-tab (evenBorder n N) 0 (N + 1) f (omega arith)

@@ -1,30 +1,16 @@
+-- Either arm is the one that `boundsOf` takes.
 use borrow.Author.Needs.{needs}
+use borrow.Author.Tests.{lt-ltb, le-ltb}
 use Rattle.folds.proofs.contiguous_fold_bounds.Statement.{statement}
 use Rattle.folds.proofs.contiguous_fold_bounds.Tie as tie
-use Rattle.folds.proofs.contiguous_fold_bounds.Reads as reads
-use Rattle.folds.proofs.contiguous_fold_bounds.Lts as lts
-use Rattle.folds.proofs.fold_start.Reads as fold-start-reads
 
--- src/lib.rt:46:26
-fold-start-requires : tie.Need-fold-start-requires
-fold-start-requires c κs = search needs
-
--- src/lib.rt:46:72
-add-fold-start : tie.Need-add-fold-start
-add-fold-start c = search needs
-
--- src/lib.rt:46:51
-fold-start-requires-2 : tie.Need-fold-start-requires-2
-fold-start-requires-2 c κs = search needs
-
--- src/lib.rt:41:1
 returns : tie.Need-returns
-returns c = search needs
+returns c =
+    simp (lt-ltb _ _ (c .before .before .if1 .taken), ← c .before .fold-start .ensures, ← c .fold-start2 .ensures)
 
--- src/lib.rt:41:1
 returns-2 : tie.Need-returns-2
-returns-2 c = search needs
+returns-2 c = simp (le-ltb _ _ (c .if1 .left))
 
 pub contiguous-fold-bounds-spec : {M : Type 1} → statement M
 contiguous-fold-bounds-spec =
-    tie.close (tie.spec fold-start-requires add-fold-start fold-start-requires-2 returns returns-2)
+    tie.close (tie.spec (λ c κs. search needs) (λ c. search needs) (λ c κs. search needs) returns returns-2)

@@ -1,34 +1,21 @@
+-- The border by a product and a remainder: `evenBorder-closed`. Nothing wraps, as no border lies past the rows.
+use mathlib.Core.Path.{sym, _∙_}
+use native.Mathlib.Omega.{arith}
 use borrow.Author.Needs.{needs}
+use Rattle.paper.proofs.FoldsMeaning.{evenBorder-closed, evenBorder-le}
 use Rattle.folds.proofs.fold_start.Statement.{statement}
 use Rattle.folds.proofs.fold_start.Tie as tie
-use Rattle.folds.proofs.fold_start.Reads as reads
-use Rattle.folds.proofs.fold_start.Lts as lts
-use Rattle.folds.proofs.least.Reads as least-reads
 
--- src/lib.rt:31:10
-div-result : tie.Need-div-result
-div-result c = search needs
-
--- src/lib.rt:31:5
 mul-result : tie.Need-mul-result
-mul-result c = search needs
+mul-result c = omega (arith, evenBorder-le (c .args .n) (c .args .folds) (c .args .f) (c .pre .1))
 
--- src/lib.rt:31:32
-rem-least : tie.Need-rem-least
-rem-least c = search needs
-
--- src/lib.rt:31:23
-least-requires : tie.Need-least-requires
-least-requires c κs = search needs
-
--- src/lib.rt:31:5
 add-result : tie.Need-add-result
-add-result c = search needs
+add-result c = omega (arith, evenBorder-le (c .before .args .n) (c .before .args .folds) (c .before .args .f) (c .before .pre .1))
 
--- src/lib.rt:27:1
 returns : tie.Need-returns
-returns c = search needs
+returns c =
+    rw (c .least .ensures) (sym (evenBorder-closed (c .before .args .n) (c .before .args .folds) (c .before .args .f)))
 
 pub fold-start-spec : {M : Type 1} → statement M
 fold-start-spec =
-    tie.close (tie.spec div-result mul-result rem-least least-requires add-result returns)
+    tie.close (tie.spec (λ c. search needs) mul-result (λ c. search needs) (λ c κs. search needs) add-result returns)

@@ -1,59 +1,35 @@
+-- The walk over the folds: its turns are the laws of proofs/WalkTurns.antt.
+use Prim.Native.Nat.{_-_, _≤_}
+use native.Mathlib.Omega.{arith}
 use borrow.Author.Needs.{needs}
+use Rattle.folds.proofs.WalkTurns.{Walked, walk-start, walk-hit, walk-on, walk-end}
 use Rattle.folds.proofs.walk.Statement.{statement}
 use Rattle.folds.proofs.walk.Tie as tie
-use Rattle.folds.proofs.walk.Reads as reads
-use Rattle.folds.proofs.walk.Lts as lts
-use Rattle.folds.proofs.fold_start.Reads as fold-start-reads
 
 abbrev Inv-loop : tie.InvT-loop
-Inv-loop n folds row f₀ f = ?
+Inv-loop n folds row f₀ f = Walked n folds row f
 
 abbrev μ-loop : tie.MeasureT-loop
-μ-loop n folds row f₀ f = ?
+μ-loop n folds row f₀ f = folds - f
 
--- src/lib.rt:69:5
 loop-holds : tie.Need-loop-holds Inv-loop μ-loop
-loop-holds c = search needs
+loop-holds c = walk-start (c .args .n) (c .args .folds) (c .args .row)
 
--- src/lib.rt:70:39
-add-fold-start : tie.Need-add-fold-start Inv-loop μ-loop
-add-fold-start c = search needs
-
--- src/lib.rt:70:18
-fold-start-requires : tie.Need-fold-start-requires Inv-loop μ-loop
-fold-start-requires c κs = search needs
-
--- src/lib.rt:71:13
 returns : tie.Need-returns Inv-loop μ-loop
-returns c = search needs
+returns c =
+    let l = c .before .before .before in
+    walk-hit _ _ _ (l .loop .f) (l .loop .inv) (omega arith) (rw (c .before .fold-start .ensures) at (c .if1 .taken))
 
--- src/lib.rt:73:9
-add-f : tie.Need-add-f Inv-loop μ-loop
-add-f c = search needs
-
--- src/lib.rt:69:5
-loop-less : tie.Need-loop-less Inv-loop μ-loop
-loop-less c = search needs
-
--- src/lib.rt:69:5
 loop-again : tie.Need-loop-again Inv-loop μ-loop
-loop-again c = search needs
+loop-again c =
+    let l = c .before .before .before in
+    walk-on _ _ _ (l .loop .f) (l .loop .inv) (omega arith) (rw (c .before .fold-start .ensures) at (c .if1 .left))
 
--- src/lib.rt:64:1
 returns-2 : tie.Need-returns-2 Inv-loop μ-loop
-returns-2 c = search needs
+returns-2 c = let l = c .before in walk-end _ _ _ (l .loop .f) (l .loop .inv) (omega arith)
 
 pub walk-spec : {M : Type 1} → statement M
 walk-spec =
     tie.close
-    (tie.spec
-    Inv-loop
-    μ-loop
-    loop-holds
-    add-fold-start
-    fold-start-requires
-    returns
-    add-f
-    loop-less
-    loop-again
-    returns-2)
+    (tie.spec Inv-loop μ-loop loop-holds (λ c. search needs) (λ c κs. search needs) returns (λ c. search needs) (λ c. search needs)
+    loop-again returns-2)

@@ -1,0 +1,18 @@
+-- A signed 64-bit number is kept as bits; read back it is itself, and so are the tests of two of them.
+use mathlib.Core.Path.{_≡_}
+use mathlib.Core.Bool.{Bool}
+use Prim.Native.Nat.{ℕ, _<_, _^_}
+use lib.IntN.{ℤ}
+use lib.Signed.{mag, leZ, ltZ}
+use mir.Syntax.{w64}
+use mir.Val.{toZ, ofZ}
+use mir.Facts.{toZ-ofZ}
+
+pub read : (a : ℤ) → mag a < 2 ^ 63 → toZ w64 (ofZ w64 a) ≡ a
+read a h = toZ-ofZ {w = w64} (record { sfits = h })
+
+pub le-read : (a b : ℤ) → mag a < 2 ^ 63 → mag b < 2 ^ 63 → leZ (toZ w64 (ofZ w64 a)) (toZ w64 (ofZ w64 b)) ≡ leZ a b
+le-read a b h k = rw (read a h, read b k)
+
+pub lt-read : (a b : ℤ) → mag a < 2 ^ 63 → mag b < 2 ^ 63 → ltZ (toZ w64 (ofZ w64 a)) (toZ w64 (ofZ w64 b)) ≡ ltZ a b
+lt-read a b h k = rw (read a h, read b k)
