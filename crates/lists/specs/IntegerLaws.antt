@@ -5,7 +5,7 @@ use Prim.Native.Nat.{ℕ}
 use native.Mathlib.Omega.{arith}
 use lib.IntN.{ℤ, pos, negsuc}
 use lib.Signed.{leZ, ltZ}
-use borrow.Author.Tests.{leb-true, ltb-true, ltb-false, le-leb}
+use borrow.Author.Tests.{leb-true, leb-false, ltb-true, ltb-false, le-leb}
 use Rattle.lists.specs.AnyLaws.{never}
 
 pub leZ-refl : (a : ℤ) → leZ a a ≡ true
@@ -35,3 +35,10 @@ ltZ-not (pos a) (pos b) h = le-leb b a (omega (arith, ltb-false a b h))
 ltZ-not (pos a) (negsuc b) h = refl
 ltZ-not (negsuc a) (pos b) h = never {b = true} refl h
 ltZ-not (negsuc a) (negsuc b) h = le-leb a b (omega (arith, ltb-false b a h))
+
+-- One of the two is at least the other.
+pub leZ-total : (a b : ℤ) → leZ a b ≡ false → leZ b a ≡ true
+leZ-total (pos a) (pos b) h = le-leb b a (omega (arith, leb-false a b h))
+leZ-total (pos a) (negsuc b) h = refl
+leZ-total (negsuc a) (pos b) h = never {b = true} refl h
+leZ-total (negsuc a) (negsuc b) h = le-leb a b (omega (arith, leb-false b a h))

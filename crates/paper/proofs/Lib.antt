@@ -5,10 +5,13 @@ pub mod ChecksMeaning
 pub mod EmbargoMeaning
 pub mod Examples
 pub mod FoldsMeaning
+pub mod JoiningMeaning
 pub mod Listing
 pub mod ListingMeaning
 pub mod MarksMeaning
 pub mod PathsMeaning
+pub mod RefusalsMeaning
 pub mod Rows
 pub mod SetsExamples
+pub mod SpansMeaning
 pub mod Times
