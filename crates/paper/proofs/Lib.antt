@@ -1,0 +1,2 @@
+-- What the definitions of the paper mean, and its worked examples.
+pub mod WidthExamples

@@ -1,0 +1,1 @@
+// The value types and the definitions of the paper stand here.
