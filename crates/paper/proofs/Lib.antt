@@ -1,2 +1,3 @@
 -- What the definitions of the paper mean, and its worked examples.
+pub mod WidthMeaning
 pub mod WidthExamples
