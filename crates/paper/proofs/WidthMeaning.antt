@@ -257,13 +257,16 @@ fraction-le (fin false m (negsuc k)) h = le-of-lt (ltb→lt (unitsOf (fin false 
 fraction-le (fin true m (pos k)) h = le-trans (le-of-eq (ap (λ (z : ℕ). z * 2 ^ (1074 + k)) (eqb→eq m 0 h) ∙ zero-mul (2 ^ (1074 + k)))) zero-le
 fraction-le (fin true m (negsuc k)) h = le-trans (le-of-eq (ap (λ (z : ℕ). z * 2 ^ (1074 - suc k)) (eqb→eq m 0 h) ∙ zero-mul (2 ^ (1074 - suc k)))) zero-le
 
--- The width never exceeds n.
+-- The rounded product of a fraction and n is no more than n,
+pub rounded-product-le : (x : Float) (n : ℕ) → T (isFraction x) → n < 2 ^ 53 → nearestDouble (unitsOf x * n) ≤ n * 2 ^ 1074
+rounded-product-le x n f h =
+    le-trans (nearestDouble-mono (unitsOf x * n) (n * 2 ^ 1074) (le-trans (mul-le-mul-right n (fraction-le x f)) (le-of-eq (mul-comm (2 ^ 1074) n))))
+    (le-of-eq (nearestDouble-exact (n * 2 ^ 1074) (record { leading = n; zeros = 1074; fits53 = h; is = refl })))
+
+-- so the width never exceeds n.
 pub widthOf-le : (x : Float) (n : ℕ) → T (isFraction x) → n < 2 ^ 53 → widthOf x n ≤ n
 unfolding widthOf
-widthOf-le x n f h =
-    ceilingOf-least (nearestDouble (unitsOf x * n)) n
-    (le-trans (nearestDouble-mono (unitsOf x * n) (n * 2 ^ 1074) (le-trans (mul-le-mul-right n (fraction-le x f)) (le-of-eq (mul-comm (2 ^ 1074) n))))
-    (le-of-eq (nearestDouble-exact (n * 2 ^ 1074) (record { leading = n; zeros = 1074; fits53 = h; is = refl }))))
+widthOf-le x n f h = ceilingOf-least (nearestDouble (unitsOf x * n)) n (rounded-product-le x n f h)
 
 -- A larger fraction, or more rows, never gives a smaller width.
 pub widthOf-mono : (x y : Float) (m n : ℕ) → unitsOf x ≤ unitsOf y → m ≤ n → widthOf x m ≤ widthOf y n

@@ -1,0 +1,1 @@
+-- The definitions that this crate's contracts cite are the paper's.
