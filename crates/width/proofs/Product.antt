@@ -19,7 +19,7 @@ use lib.Ieee.Nearest.{closest, closest-same, div-same}
 use lib.Ieee.Order.{transfer}
 use lib.Ieee.Scale.{grid, round-same, round-val}
 use Rattle.paper.specs.Width.{unitsOf, isFraction, digits, toNearest, nearestDouble, ceilingOf, widthOf}
-use Rattle.paper.proofs.WidthMeaning.{digits-lt, digits-le, rounded-product-le, ceilingOf-reaches, ceilingOf-least, widthOf-le}
+use Rattle.paper.proofs.WidthMeaning.{unitsOf-none, unitsOf-exact, digits-lt, digits-le, product-le, ceilingOf-reaches, ceilingOf-least, widthOf-le}
 
 -- The float is r units, of which 1.0 has u; -0.0 is none.
 abbrev pub Measures : ℕ → Float → ℕ → Type 0
@@ -50,22 +50,6 @@ grid-is a =
 
 -- ---- the product
 
-low-enough : (k : ℕ) → 2 ^ suc k ≤ 2 ^ 1074 → suc k ≤ 1074
-low-enough k h = le-of-suc-le-suc (lt-of-not-le (λ (g : suc 1074 ≤ suc k). not-le-of-lt (pow-lt {i = 1074} {j = suc k} g) h))
-
--- what fits a double is exactly its units
-pub units-value : (m : ℕ) (e : ℤ) → T (fits binary64 (fin false m e)) → m * up e * 2 ^ 1074 ≡ unitsOf (fin false m e) * down e
-unfolding fits
-units-value m (pos k) f = mul-assoc m (2 ^ k) (2 ^ 1074) ∙ ap (λ (z : ℕ). m * z) (mul-comm (2 ^ k) (2 ^ 1074) ∙ sym (pow-add 2 1074 k)) ∙ sym (mul-one (m * 2 ^ (1074 + k)))
-units-value zero (negsuc k) f = sym (ap (λ (z : ℕ). z * 2 ^ suc k) (zero-mul (2 ^ (1074 - suc k))) ∙ zero-mul (2 ^ suc k))
-units-value (suc m) (negsuc k) f =
-    let odd-and-short = eqb (suc m % 2) 1 && ltb (suc m) (2 ^ 53) in
-    let low = leb (2 ^ suc k) (2 ^ 1074) in
-    let h : suc k ≤ 1074 = low-enough k (leb→le (2 ^ suc k) (2 ^ 1074) (and-r odd-and-short low (and-l (odd-and-short && low) (ltb (suc m * 1) (2 ^ 1024 * 2 ^ suc k)) f))) in
-    ap (λ (z : ℕ). z * 2 ^ 1074) (mul-one (suc m))
-    ∙ ap (λ (z : ℕ). suc m * z) (sym (ap (λ (z : ℕ). 2 ^ z) (sub-add-cancel h)) ∙ pow-add 2 (1074 - suc k) (suc k))
-    ∙ sym (mul-assoc (suc m) (2 ^ (1074 - suc k)) (2 ^ suc k))
-
 cross : (a b c d v n u : ℕ) → a * u ≡ v * c → b * 1 ≡ n * d → a * b * u ≡ v * n * (c * d)
 cross a b c d v n u p q = mul-right-comm a b u ∙ ap (λ (z : ℕ). z * b) p ∙ ap (λ (z : ℕ). v * c * z) (sym (mul-one b) ∙ q) ∙ mul-mul-mul-comm v c n d
 
@@ -78,7 +62,7 @@ mul-is m e (inf s) n f h = absurd h
 mul-is m e (fin true b d) n f h = absurd (true≢false (h .0))
 mul-is m e (fin false b d) n f h =
     round-same binary64 false (m * up e * (b * up d)) (down e * down d) (unitsOf (fin false m e) * n) (2 ^ 1074) (mul-pos (down-pos e) (down-pos d)) (pow-pos 1074)
-    (cross (m * up e) (b * up d) (down e) (down d) (unitsOf (fin false m e)) n (2 ^ 1074) (units-value m e f) (h .1))
+    (cross (m * up e) (b * up d) (down e) (down d) (unitsOf (fin false m e)) n (2 ^ 1074) (unitsOf-exact false m e f) (h .1))
 
 of-positive : (u r : ℕ) (p : Float) → HasValue p false r u → Measures u p r
 of-positive u r nan h = h
@@ -110,10 +94,6 @@ negative-zero-times m e (fin false b d) n z h =
     (subst (λ (x : ℕ). HasValue (round binary64 true x c) true 0 c) (sym none)
     (round-exact binary64 true 0 c 0 0 C (lit< tt) (lit< tt) (sym (zero-mul c))))
 
-no-units : (m : ℕ) (e : ℤ) → m ≡ 0 → unitsOf (fin true m e) ≡ 0
-no-units m (pos k) z = ap (λ (x : ℕ). x * 2 ^ (1074 + k)) z ∙ zero-mul (2 ^ (1074 + k))
-no-units m (negsuc k) z = ap (λ (x : ℕ). x * 2 ^ (1074 - suc k)) z ∙ zero-mul (2 ^ (1074 - suc k))
-
 ofInt-value : (n : ℕ) → n < 2 ^ 53 → HasValue (ofInt binary64 (pos n)) false n 1
 unfolding ofInt
 ofInt-value n h = round-whole binary64 false n (le-of-lt h)
@@ -125,7 +105,7 @@ product-units nan n f h l = absurd h
 product-units (inf s) n f h l = absurd h
 product-units (fin true m e) n f h l =
     let z : m ≡ 0 = eqb→eq m 0 h in
-    let none : nearestDouble (unitsOf (fin true m e) * n) ≡ 0 = ap nearestDouble (ap (λ (x : ℕ). x * n) (no-units m e z) ∙ zero-mul n) ∙ nearest-none in
+    let none : nearestDouble (unitsOf (fin true m e) * n) ≡ 0 = ap nearestDouble (ap (λ (x : ℕ). x * n) (unitsOf-none true m e z) ∙ zero-mul n) ∙ nearest-none in
     subst (Measures (2 ^ 1074) (mul binary64 (fin true m e) (ofInt binary64 (pos n)))) (sym none)
     (negative-zero-times m e (ofInt binary64 (pos n)) n z (ofInt-value n l))
   where
@@ -135,7 +115,7 @@ product-units (fin false m e) n f h l =
     let p = unitsOf (fin false m e) * n in
     let P = mul binary64 (fin false m e) (ofInt binary64 (pos n)) in
     let bound : grid binary64 p (2 ^ 1074) < 2 ^ 2098 =
-          lt-of-le-of-lt (le-trans (le-of-eq (grid-is p)) (rounded-product-le (fin false m e) n h l)) (lt-of-lt-of-le (shl-lt 53 1074 l) (pow-mono {i = 1127} {j = 2098} (lit≤ tt)))
+          lt-of-le-of-lt (le-trans (le-of-eq (grid-is p)) (product-le (fin false m e) n h l)) (lt-of-lt-of-le (shl-lt 53 1074 l) (pow-mono {i = 1127} {j = 2098} (lit≤ tt)))
     in
     of-positive (2 ^ 1074) (nearestDouble p) P
     (subst (λ (y : Float). HasValue y false (nearestDouble p) (2 ^ 1074)) (sym (mul-is m e (ofInt binary64 (pos n)) n f (ofInt-value n l)))
@@ -239,7 +219,7 @@ module _ (x : Float) (n : ℕ) (fit : T (fits binary64 x)) (fraction : isFractio
   measured = product-units x n fit is-fraction few
 
   at-most-n : rounded ≤ n * 2 ^ 1074
-  at-most-n = rounded-product-le x n is-fraction few
+  at-most-n = product-le x n is-fraction few
 
   in-range : rounded < 2 ^ 64 * 2 ^ 1074
   in-range = lt-of-le-of-lt at-most-n (mul-lt-mul-of-pos-right {m = n} {n = 2 ^ 64} (lt-of-le-of-lt rows (lit< tt)) (pow-pos 1074))

@@ -11,7 +11,8 @@ use lib.Ieee.Bits.{is-true, is-false}
 use lib.Ieee.Fits.{up-pos, down-pos}
 use lib.Ieee.Order.{le-of-values}
 use Rattle.paper.specs.Width.{unitsOf, isFraction}
-use Rattle.width.proofs.Product.{units-value, same-ltb}
+use Rattle.paper.proofs.WidthMeaning.{unitsOf-exact}
+use Rattle.width.proofs.Product.{same-ltb}
 
 -- a / d is v / u, so the one is 1 at least where the other is
 one-reached : (a d v u : ℕ) → 0 < d → a * u ≡ v * d → d ≤ a → u ≤ v
@@ -35,7 +36,7 @@ test-is (inf false) f = refl
 test-is (inf true) f = refl
 test-is (fin false m e) f =
     let v = unitsOf (fin false m e) in
-    let value : m * up e * 2 ^ 1074 ≡ v * down e = units-value m e f in
+    let value : m * up e * 2 ^ 1074 ≡ v * down e = unitsOf-exact false m e f in
     let not-below : T (le (fin false 0 (pos 0)) (fin false m e)) =
           le-of-values (fin false 0 (pos 0)) (fin false m e) 0 1 (m * up e) (down e) (zero-lt-suc 0) (down-pos e) (refl, refl) (refl, refl) (le-trans (le-of-eq (zero-mul (down e))) zero-le)
     in
