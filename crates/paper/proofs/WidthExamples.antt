@@ -23,7 +23,7 @@ widths =
       one-hundredth = refl;
       minus-zero = refl;
       smallest-positive = refl;
-      largest-below-one = refl
+      largest-below-one = refl;
     }
 
 -- Two that hang on the last of the 53 digits.
@@ -57,5 +57,5 @@ fractions =
       one = refl;
       infinity = refl;
       not-a-number = refl;
-      largest-negative = refl
+      largest-negative = refl;
     }

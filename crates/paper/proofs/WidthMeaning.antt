@@ -179,16 +179,21 @@ step-nearest p u d U g = go (compare (p % u * 2) u) (leb→le (p % u * 2) u) (nl
   where
     q : ℕ
     q = p / u
+
     r : ℕ
     r = p % u
+
     lower : r * 2 ≤ u → distance (q * u) p ≤ distance d p
     lower h = to-lower (q * u) r u p d (div-add-mod' p u) h g
+
     upper : u ≤ r * 2 → distance ((q + 1) * u) p ≤ distance d p
     upper h = rw next (to-upper (q * u) r u p d (div-add-mod' p u) h (mod-lt p U) g)
+
     tie : (b : ℕ) → b < 2 → r * 2 ≡ u → distance ((q + b) * u) p ≤ distance d p
     tie zero h e = rw add-zero (lower (le-of-eq e))
     tie (suc zero) h e = upper (le-of-eq (sym e))
     tie (suc (suc b)) h e = absurd (not-suc-le-zero (le-of-suc-le-suc (le-of-suc-le-suc h)))
+
     go : (o : Ordering) → (T (isLe o) → r * 2 ≤ u) → (T (not (isLe o)) → u < r * 2) → (T (isEq o) → r * 2 ≡ u)
         → distance (toNearest q o * u) p ≤ distance d p
     go Ordering·lt le gt eq = lower (le tt)
@@ -215,6 +220,7 @@ fewer-zeros p m j small l =
   where
     top : (z j : ℕ) → j < z - 53 → 52 + (z - 53) < z
     top z j h = omega arith
+
     room : (j k : ℕ) → j < k → 53 + j ≤ 52 + k
     room j k h = omega arith
 
@@ -252,7 +258,7 @@ is-double q k h =
             leading = 1;
             zeros = 53 + k;
             short = lit< tt;
-            is = ap (λ (x : ℕ). x * 2 ^ k) e ∙ sym (pow-add 2 53 k) ∙ sym (one-mul (2 ^ (53 + k)))
+            is = ap (λ (x : ℕ). x * 2 ^ k) e ∙ sym (pow-add 2 53 k) ∙ sym (one-mul (2 ^ (53 + k)));
           }
       | inr l ↦ record { leading = q; zeros = k; short = l; is = refl }
     ]
@@ -320,21 +326,25 @@ nearestDouble-tie q k lo hi =
     let p = q * u + 2 ^ k in
     let half : 2 ^ k < u = pow-lt (le-of-eq refl) in
     let under : p < 2 ^ (53 + suc k) =
-          lt-of-lt-of-le (in-gap (q * u) (2 ^ k) u half)
-          (le-trans (le-of-eq (sym (next q u))) (le-trans (mul-le-mul-right u (le-trans (le-of-eq (add-one q)) hi)) (le-of-eq (sym (pow-add 2 53 (suc k))))))
+    lt-of-lt-of-le (in-gap (q * u) (2 ^ k) u half)
+    (le-trans (le-of-eq (sym (next q u))) (le-trans (mul-le-mul-right u (le-trans (le-of-eq (add-one q)) hi)) (le-of-eq (sym (pow-add 2 53 (suc k))))))
     in
     let over : 2 ^ (52 + suc k) ≤ p = le-trans (le-of-eq (pow-add 2 52 (suc k))) (le-trans (mul-le-mul-right u lo) (le-add-right (q * u) (2 ^ k))) in
-    let drops : digits p - 53 ≡ suc k = count (digits p) k (digits-le p (53 + suc k) under) (digits-gt p (52 + suc k) over) in
-    (ap (λ (z : ℕ). toNearest (p / 2 ^ z) (compare (p % 2 ^ z * 2) (2 ^ z)) * 2 ^ z) drops
-    ∙ ap (λ (z : ℕ). toNearest z (compare (p % u * 2) u) * u) (high q (suc k) half)
-    ∙ ap (λ (z : ℕ). toNearest q (compare (z * 2) u) * u) (low q (suc k) half)
-    ∙ ap (λ (z : ℕ). toNearest q (compare z u) * u) (sym (pow-suc 2 k))
-    ∙ ap (λ (o : Ordering). toNearest q o * u) (compare-same u), even q)
+    let drops : digits p - 53 ≡ suc k = count (digits p) k (digits-le p (53 + suc k) under) (digits-gt p (52 + suc k) over) in (
+      ap (λ (z : ℕ). toNearest (p / 2 ^ z) (compare (p % 2 ^ z * 2) (2 ^ z)) * 2 ^ z) drops
+          ∙ ap (λ (z : ℕ). toNearest z (compare (p % u * 2) u) * u) (high q (suc k) half)
+          ∙ ap (λ (z : ℕ). toNearest q (compare (z * 2) u) * u) (low q (suc k) half)
+          ∙ ap (λ (z : ℕ). toNearest q (compare z u) * u) (sym (pow-suc 2 k))
+          ∙ ap (λ (o : Ordering). toNearest q o * u) (compare-same u),
+      even q,
+    )
   where
     in-gap : (a b c : ℕ) → b < c → a + b < a + c
     in-gap a b c h = omega arith
+
     count : (z k : ℕ) → z ≤ 53 + suc k → 52 + suc k < z → z - 53 ≡ suc k
     count z k a b = omega arith
+
     even : (q : ℕ) → (q + q % 2) % 2 ≡ 0
     even q = omega arith
 

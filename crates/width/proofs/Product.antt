@@ -1,18 +1,18 @@
 -- A float as a count of units: the machine's product of a fraction and n, its whole part and its comparison with a whole number, each said of
 -- `nearestDouble (unitsOf x * n)`. Then the two answers of `embargo_width`.
 use mathlib.Core.Path.{_≡_, refl, sym, ap, _∙_, subst}
-use mathlib.Core.Bool.{Bool, true, false, not, _&&_, true≢false}
+use mathlib.Core.Bool.{Bool, true, false, not, true≢false}
 use mathlib.Core.Logic.{inl, inr}
-use Prim.Native.Nat.{ℕ, zero, suc, _+_, _-_, _*_, _/_, _%_, _^_, _≤_, _<_, zero-le, compare, Ordering, Ordering·lt, Ordering·eq, Ordering·gt}
-use native.Mathlib.Nat.{le-trans, le-of-eq, le-of-lt, le-of-suc-le-suc, le-antisymm, lt-of-lt-of-le, lt-of-le-of-lt, lt-of-not-le, not-le-of-lt, not-suc-le-zero, zero-lt-suc, mul-one, one-mul, zero-mul, mul-assoc, mul-comm, mul-right-comm, mul-mul-mul-comm, mul-pos, sub-add-cancel, zero-div, min-eq-left, eq-zero-or-pos, lt-of-mul-lt-mul-right, le-of-mul-le-mul-right, div-mul-le-self, lt-div-mul-add, suc-mul, div-lt-iff-lt-mul, div-le-of-le-mul, mul-lt-mul-of-pos-right}
+use Prim.Native.Nat.{ℕ, _+_, _-_, _*_, _/_, _%_, _^_, _≤_, _<_, compare, Ordering, Ordering·lt, Ordering·eq, Ordering·gt}
+use native.Mathlib.Nat.{le-trans, le-of-eq, le-of-lt, le-antisymm, lt-of-lt-of-le, lt-of-le-of-lt, not-le-of-lt, not-suc-le-zero, zero-lt-suc, mul-one, zero-mul, mul-assoc, mul-comm, mul-right-comm, mul-mul-mul-comm, mul-pos, zero-div, min-eq-left, eq-zero-or-pos, lt-of-mul-lt-mul-right, le-of-mul-le-mul-right, div-mul-le-self, lt-div-mul-add, suc-mul, div-lt-iff-lt-mul, div-le-of-le-mul, mul-lt-mul-of-pos-right}
 use native.Mathlib.Numerals.{add-one}
 use native.Mathlib.Omega.{arith}
-use lib.IntN.{ℤ, pos, negsuc}
-use lib.Dec.{T, ltb, leb, eqb, ltb→lt, lt→ltb, nltb→le, leb→le, eqb→eq, leb·suc-zero, lit<, lit≤}
-use lib.Pow.{pow-pos, pow-lt, pow-mono, pow-add, shl-lt, shl-shr, le-ones}
+use lib.IntN.{ℤ, pos}
+use lib.Dec.{T, ltb, ltb→lt, lt→ltb, nltb→le, eqb→eq, leb·suc-zero, lit<, lit≤}
+use lib.Pow.{pow-pos, pow-mono, shl-lt, shl-shr, le-ones}
 use lib.Ieee.{Float, nan, inf, fin, binary64, up, down, size, nearest, round, mul, lt, ofInt, toUnsigned, fits}
 use lib.Ieee.Digits.{size-lt, size-le}
-use lib.Ieee.Fits.{up-pos, down-pos, and-l, and-r}
+use lib.Ieee.Fits.{up-pos, down-pos}
 use lib.Ieee.Exact.{HasValue, round-exact}
 use lib.Ieee.Back.{round-whole}
 use lib.Ieee.Nearest.{closest, closest-same, div-same}
@@ -22,7 +22,7 @@ use Rattle.paper.specs.Width.{unitsOf, isFraction, digits, toNearest, nearestDo
 use Rattle.paper.proofs.WidthMeaning.{unitsOf-none, unitsOf-exact, digits-lt, digits-le, product-le, ceilingOf-reaches, ceilingOf-least, widthOf-le}
 
 -- The float is r units, of which 1.0 has u; -0.0 is none.
-abbrev pub Measures : ℕ → Float → ℕ → Type 0
+abbrev Measures : ℕ → Float → ℕ → Type 0
 Measures u nan r = ⊥
 Measures u (inf s) r = ⊥
 Measures u (fin false m e) r = m * up e * u ≡ r * down e
@@ -99,7 +99,7 @@ unfolding ofInt
 ofInt-value n h = round-whole binary64 false n (le-of-lt h)
 
 -- The machine's product of a fraction and n is the paper's, in units.
-pub product-units : (x : Float) (n : ℕ) → T (fits binary64 x) → T (isFraction x) → n < 2 ^ 53
+product-units : (x : Float) (n : ℕ) → T (fits binary64 x) → T (isFraction x) → n < 2 ^ 53
     → Measures (2 ^ 1074) (mul binary64 x (ofInt binary64 (pos n))) (nearestDouble (unitsOf x * n))
 product-units nan n f h l = absurd h
 product-units (inf s) n f h l = absurd h
@@ -115,7 +115,7 @@ product-units (fin false m e) n f h l =
     let p = unitsOf (fin false m e) * n in
     let P = mul binary64 (fin false m e) (ofInt binary64 (pos n)) in
     let bound : grid binary64 p (2 ^ 1074) < 2 ^ 2098 =
-          lt-of-le-of-lt (le-trans (le-of-eq (grid-is p)) (product-le (fin false m e) n h l)) (lt-of-lt-of-le (shl-lt 53 1074 l) (pow-mono {i = 1127} {j = 2098} (lit≤ tt)))
+    lt-of-le-of-lt (le-trans (le-of-eq (grid-is p)) (product-le (fin false m e) n h l)) (lt-of-lt-of-le (shl-lt 53 1074 l) (pow-mono {i = 1127} {j = 2098} (lit≤ tt)))
     in
     of-positive (2 ^ 1074) (nearestDouble p) P
     (subst (λ (y : Float). HasValue y false (nearestDouble p) (2 ^ 1074)) (sym (mul-is m e (ofInt binary64 (pos n)) n f (ofInt-value n l)))
@@ -124,7 +124,7 @@ product-units (fin false m e) n f h l =
 -- ---- what the code does with a product of r units
 
 -- it is above -1,
-pub above-minus-one : (u r : ℕ) (p : Float) → Measures u p r → T (lt (fin true 1 (pos 0)) p)
+above-minus-one : (u r : ℕ) (p : Float) → Measures u p r → T (lt (fin true 1 (pos 0)) p)
 unfolding lt
 above-minus-one u r nan h = h
 above-minus-one u r (inf s) h = absurd h
@@ -138,7 +138,7 @@ above-minus-one u r (fin true m e) h = lt→ltb (m * up e * 1) (1 * down e) (non
     none a d z h = omega arith
 
 -- below 2 ^ 64,
-pub below-limit : (u r : ℕ) (p : Float) → 0 < u → Measures u p r → r < 2 ^ 64 * u → T (lt p (fin false 1 (pos 64)))
+below-limit : (u r : ℕ) (p : Float) → 0 < u → Measures u p r → r < 2 ^ 64 * u → T (lt p (fin false 1 (pos 64)))
 unfolding lt
 below-limit u r nan U h l = h
 below-limit u r (inf s) U h l = absurd h
@@ -153,7 +153,7 @@ below-limit u r (fin true m e) U h l = lt→ltb 0 (m * up e * 1 + 2 ^ 64 * down 
     some a d h = omega arith
 
 -- its whole part is the quotient by u,
-pub whole-part : (u r : ℕ) (p : Float) → 0 < u → Measures u p r → r < 2 ^ 64 * u → toUnsigned 64 p ≡ r / u
+whole-part : (u r : ℕ) (p : Float) → 0 < u → Measures u p r → r < 2 ^ 64 * u → toUnsigned 64 p ≡ r / u
 unfolding toUnsigned
 whole-part u r nan U h l = absurd h
 whole-part u r (inf s) U h l = absurd h
@@ -173,7 +173,7 @@ same-ltb a b c d f g = go (ltb a b) (ltb c d) (ltb→lt a b) (nltb→le a b) (lt
     go false false p p' q q' = refl
 
 -- and to compare a whole number w with it is to compare w * u with r.
-pub compared : (u w r : ℕ) (a p : Float) → 0 < u → HasValue a false w 1 → Measures u p r → lt a p ≡ ltb (w * u) r
+compared : (u w r : ℕ) (a p : Float) → 0 < u → HasValue a false w 1 → Measures u p r → lt a p ≡ ltb (w * u) r
 unfolding lt
 compared u w r nan p U g h = absurd g
 compared u w r (inf s) p U g h = absurd g

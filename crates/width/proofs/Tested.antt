@@ -25,7 +25,7 @@ negative (suc m) u d U D =
     let a = suc m * u * 1 in
     let some : 0 < a = mul-pos (mul-pos (zero-lt-suc m) U) (zero-lt-suc 0) in
     let unlike : eqb (0 * d) a ≡ false =
-          is-false (eqb (0 * d) a) (not-T (eqb (0 * d) a) (λ t. not-suc-le-zero (le-trans some (le-of-eq (sym (eqb→eq (0 * d) a t) ∙ zero-mul d)))))
+    is-false (eqb (0 * d) a) (not-T (eqb (0 * d) a) (λ t. not-suc-le-zero (le-trans some (le-of-eq (sym (eqb→eq (0 * d) a t) ∙ zero-mul d)))))
     in
     ap (λ (b : Bool). b && eqb (0 * d) 0 && ltb 0 (a + 1 * d)) unlike ∙ sym (eqb·suc-zero m)
 
@@ -38,7 +38,7 @@ test-is (fin false m e) f =
     let v = unitsOf (fin false m e) in
     let value : m * up e * 2 ^ 1074 ≡ v * down e = unitsOf-exact false m e f in
     let not-below : T (le (fin false 0 (pos 0)) (fin false m e)) =
-          le-of-values (fin false 0 (pos 0)) (fin false m e) 0 1 (m * up e) (down e) (zero-lt-suc 0) (down-pos e) (refl, refl) (refl, refl) (le-trans (le-of-eq (zero-mul (down e))) zero-le)
+    le-of-values (fin false 0 (pos 0)) (fin false m e) 0 1 (m * up e) (down e) (zero-lt-suc 0) (down-pos e) (refl, refl) (refl, refl) (le-trans (le-of-eq (zero-mul (down e))) zero-le)
     in
     ap (λ (b : Bool). b && ltb (m * up e * 1) (1 * down e)) (is-true (le (fin false 0 (pos 0)) (fin false m e)) not-below)
     ∙ ap (λ (z : ℕ). ltb z (1 * down e)) (mul-one (m * up e))

@@ -1,9 +1,12 @@
-// The embargo width on doubles (01, "Purge, embargo, marks"). Source: `embargo_width` of
-// cross_validation.rs, whose body is `(pct_embargo * n_samples as f64).ceil() as usize`.
-// Changed against it:
-// - `ceil` is worked out: the product without its fraction, and one more where that lost something.
-// - The fraction and n are bounded by a `requires`; the Rust takes any, and its casts saturate.
-// - `is_fraction` is new: the test that callers make before, which the Rust has in its constructor.
+// The embargo width on doubles (01, "Purge, embargo, marks").
+//
+// Source: `embargo_width` of cross_validation.rs, whose body is
+// `(pct_embargo * n_samples as f64).ceil() as usize`, and the test of `pct_embargo` that
+// `PurgedKFold::new` makes. Changed against it:
+// - `ceil` is worked out: the product without its fraction, and one more where that is less.
+// - What the Rust's caller has checked stands in a `requires`: a fraction, and 1,048,576 rows at most.
+// - The test is a function of its own. It leaves out `is_finite`, which [0,1) implies.
+// - The parameters have 01's names.
 
 ghost use mathlib.Core.Path.{_≡_};
 ghost use mathlib.Core.Bool.{true};
@@ -17,8 +20,7 @@ pub fn is_fraction(x: f64) -> bool
     x >= 0.0 && x < 1.0
 }
 
-// How many rows the embargo after a block covers: the fraction of n rows, rounded up, and never
-// more than n.
+// How many rows an embargo covers, for a fraction of n rows: rounded up, and n at most.
 pub fn embargo_width(fraction: f64, n: usize) -> usize
     requires { ⌜ isFraction fraction ≡ true ⌝ }
     requires { ⌜ n ≤ 1048576 ⌝ }

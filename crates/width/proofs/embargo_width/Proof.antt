@@ -1,16 +1,14 @@
-use borrow.Author.Needs.{needs}
-use Rattle.width.proofs.embargo_width.Statement.{statement}
-use Rattle.width.proofs.embargo_width.Tie as tie
-use Rattle.width.proofs.embargo_width.Reads as reads
-use Rattle.width.proofs.embargo_width.Lts as lts
-use Rattle.std.proofs.num.truncating_f64_to_u64.Reads as truncating-f64-to-u64-reads
-use Rattle.width.proofs.Product.{product-in-range, whole-le, width-more, width-even}
+-- `width::embargo_width` meets its contract. The facts on numbers are laws of Product.antt; here they meet the places of the code.
+-- A double that is handed in fits its format: that is what `good` knows of a parameter.
 use Prim.Native.Nat.{_^_, _≤_}
 use native.Mathlib.Nat.{le-trans}
+use native.Mathlib.Omega.{arith}
 use lib.Dec.{T, le→leb, lit≤}
 use lib.Ieee.{binary64, fits, inFloat}
-use native.Mathlib.Omega.{arith}
 use denote.Floats.{passes}
+use Rattle.width.proofs.Product.{product-in-range, whole-le, width-more, width-even}
+use Rattle.width.proofs.embargo_width.Statement.{statement}
+use Rattle.width.proofs.embargo_width.Tie as tie
 
 fine : (s : tie.Start) → T (fits binary64 (s .args .fraction))
 fine s = passes (fits binary64 (s .args .fraction)) (s .good .0 .1)
@@ -20,7 +18,9 @@ unfolding inFloat
 int-to-float-product c = le→leb (c .before .args .n) (2 ^ 53) (le-trans (c .before .pre .1) (lit≤ tt))
 
 truncating-f64-to-u64-requires : tie.Need-truncating-f64-to-u64-requires
-truncating-f64-to-u64-requires c κs = product-in-range (c .before .args .fraction) (c .before .args .n) (fine (c .before)) (c .before .pre .0) (c .before .pre .1)
+truncating-f64-to-u64-requires c κs =
+    let s = c .before in
+    product-in-range (s .args .fraction) (s .args .n) (fine s) (s .pre .0) (s .pre .1)
 
 at-most : (c : tie.After-truncating-f64-to-u64) → c .truncating-f64-to-u64 .result ≤ 1048576
 at-most c =
@@ -49,11 +49,4 @@ returns-2 c =
 
 pub embargo-width-spec : {M : Type 1} → statement M
 embargo-width-spec =
-    tie.close
-    (tie.spec
-    int-to-float-product
-    truncating-f64-to-u64-requires
-    int-to-float-if1
-    add-result
-    returns
-    returns-2)
+    tie.close (tie.spec int-to-float-product truncating-f64-to-u64-requires int-to-float-if1 add-result returns returns-2)
