@@ -1,5 +1,6 @@
--- A float as a count of units: the machine's product of a fraction and n, its whole part and its comparison with a whole number, each said of
--- `nearestDouble (unitsOf x * n)`. Then the two answers of `embargo_width`.
+-- The laws behind `embargo_width`. A float is taken as a count of units of 2^-1074 (`Measures`), and each step of the code is said of that count:
+-- the product (`product-units`: it is the paper's rounded product), its range, its whole part, and the comparison with that part.
+-- The two answers, `width-more` and `width-even`, stand at the end. -0.0 goes through every step as a count of 0.
 use mathlib.Core.Path.{_≡_, refl, sym, ap, _∙_, subst}
 use mathlib.Core.Bool.{Bool, true, false, not, true≢false}
 use mathlib.Core.Logic.{inl, inr}
@@ -38,6 +39,7 @@ nearest-same q Ordering·lt = refl
 nearest-same q Ordering·eq = refl
 nearest-same q Ordering·gt = sym (add-one q)
 
+-- `grid` is the library's name for a rounded fraction in units; here the fraction is a / 2 ^ 1074, which is a units
 grid-is : (a : ℕ) → grid binary64 a (2 ^ 1074) ≡ nearestDouble a
 unfolding nearestDouble
 grid-is a =
@@ -50,10 +52,11 @@ grid-is a =
 
 -- ---- the product
 
+-- a / c is v / u and b / d is n, so a * b / (c * d) is v * n / u
 cross : (a b c d v n u : ℕ) → a * u ≡ v * c → b * 1 ≡ n * d → a * b * u ≡ v * n * (c * d)
 cross a b c d v n u p q = mul-right-comm a b u ∙ ap (λ (z : ℕ). z * b) p ∙ ap (λ (z : ℕ). v * c * z) (sym (mul-one b) ∙ q) ∙ mul-mul-mul-comm v c n d
 
--- one rounding of the exact product, in units
+-- the machine's product is one rounding of the exact product, in units
 mul-is : (m : ℕ) (e : ℤ) (y : Float) (n : ℕ) → T (fits binary64 (fin false m e)) → HasValue y false n 1
     → mul binary64 (fin false m e) y ≡ round binary64 false (unitsOf (fin false m e) * n) (2 ^ 1074)
 unfolding mul

@@ -1,1 +1,0 @@
--- The definitions that this crate's contracts cite are the paper's.
