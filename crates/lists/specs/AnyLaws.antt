@@ -1,0 +1,67 @@
+-- Laws of `any`: what makes it true or false, and what it gives back.
+use mathlib.Core.Path.{_≡_, refl, sym, ap, _∙_}
+use mathlib.Core.Bool.{Bool, true, false, _||_, _&&_, or-true}
+use Prim.Native.Nat.{ℕ, zero, suc, _+_, _≤_, _<_}
+use native.Mathlib.Numerals.{add-one}
+use native.Mathlib.Omega.{arith}
+use native.Mathlib.Decide.{decLt}
+use Rattle.lists.specs.Base.{any}
+
+-- True and false are two.
+pub never : {X : Type 0} {b : Bool} → b ≡ true → b ≡ false → X
+never {X} {b} t f = absurd (let y : _≡_ {A = ℕ} 0 1 = let w : _≡_ {A = Bool} true false = sym t ∙ f in cc in omega arith)
+
+pub any-more : (p : ℕ → Bool) (n : ℕ) → any p (n + 1) ≡ any p n || p n
+unfolding any
+any-more p n = rw add-one
+
+-- A number that passes.
+pub any-here : (p : ℕ → Bool) (n i : ℕ) → i < n → p i ≡ true → any p n ≡ true
+unfolding any
+any-here p zero i h e = absurd (omega arith)
+any-here p (suc n) i h e = go (decLt i n) (any-here p n i)
+  where
+    go : Dec (i < n) → (i < n → p i ≡ true → any p n ≡ true) → any p n || p n ≡ true
+    go (yes l) ih = rw (ih l e)
+    go (no g) ih = let z : n ≡ i = omega arith in rw (z, e) (or-true (any p i))
+
+-- What passes, where one does.
+pub any-some : (p : ℕ → Bool) (n : ℕ) → any p n ≡ true → (i : ℕ) × (i < n) × (p i ≡ true)
+unfolding any
+any-some p zero h = never {b = false} h refl
+any-some p (suc n) h = go (p n) refl (any-some p n)
+  where
+    go : (b : Bool) → p n ≡ b → (any p n ≡ true → (i : ℕ) × (i < n) × (p i ≡ true)) → (i : ℕ) × (i < suc n) × (p i ≡ true)
+    go true e ih = (n, omega arith, e)
+    go false e ih =
+        let r = ih (last (any p n) refl) in
+        (r .0, omega (arith, r .1), r .2)
+      where
+        last : (a : Bool) → any p n ≡ a → any p n ≡ true
+        last true q = q
+        last false q = never {b = any p n || p n} h (rw (q, e))
+
+pub any-none : (p : ℕ → Bool) (n : ℕ) → ((i : ℕ) → i < n → p i ≡ false) → any p n ≡ false
+unfolding any
+any-none p zero h = refl
+any-none p (suc n) h = rw (any-none p n (λ i l. h i (omega arith)), h n (omega arith))
+
+-- None passes, where it is false.
+pub any-each : (p : ℕ → Bool) (n i : ℕ) → any p n ≡ false → i < n → p i ≡ false
+any-each p n i f l = go (p i) refl
+  where
+    go : (b : Bool) → p i ≡ b → p i ≡ false
+    go true e = never (any-here p n i l e) f
+    go false e = e
+
+pub any-ext : (p q : ℕ → Bool) (n : ℕ) → ((i : ℕ) → i < n → p i ≡ q i) → any p n ≡ any q n
+unfolding any
+any-ext p q zero h = refl
+any-ext p q (suc n) h = rw (any-ext p q n (λ i l. h i (omega arith)), h n (omega arith))
+
+-- Both hold, taken apart and put together.
+pub both : {a b : Bool} → a && b ≡ true → (a ≡ true) × (b ≡ true)
+both {a = true} {b = true} h = (refl, refl)
+both {a = true} {b = false} h = never {b = false} h refl
+both {a = false} {b = true} h = never {b = false} h refl
+both {a = false} {b = false} h = never {b = false} h refl

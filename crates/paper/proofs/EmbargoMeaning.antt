@@ -1,0 +1,57 @@
+-- What the embargo means (01, "Purge, embargo, marks"): from the end of its block it steps over the rows that start no later
+-- than the block's latest end, begins at the first other row, and covers width rows from there, cut at n.
+use mathlib.Core.Path.{_≡_, refl, ap, _∙_}
+use mathlib.Core.Bool.{Bool, true, false, _&&_, not, and-false}
+use Prim.Native.Nat.{ℕ, _+_, _-_, _≤_, _<_, min}
+use native.Mathlib.Omega.{arith}
+use native.Mathlib.Decide.{decLt}
+use borrow.Author.Tests.{not-true, not-false}
+use Rattle.lists.specs.Base.{count}
+use Rattle.lists.specs.AnyLaws.{any-none}
+use Rattle.lists.specs.FirstLaws.{firstFrom-ge, firstFrom-le, firstFrom-is, firstFrom-before}
+use Rattle.paper.specs.Spans.{Table}
+use Rattle.paper.specs.Folds.{Rows, within}
+use Rattle.paper.specs.Blocks.{begins, past, latest}
+use Rattle.paper.specs.Embargo.{stepped, embargoFrom, embargoed}
+use Rattle.paper.proofs.FoldsMeaning.{within-before, within-behind, count-within}
+
+-- The block b up to e of a table.
+module _ (T : Table) (b e : ℕ) where
+  pub embargo-ge : e ≤ embargoFrom T b e
+  embargo-ge = firstFrom-ge (λ i. not (stepped T (latest T b e) i)) e (T .rows - e)
+
+  pub embargo-le : e ≤ T .rows → embargoFrom T b e ≤ T .rows
+  embargo-le h = omega (arith, firstFrom-le (λ i. not (stepped T (latest T b e) i)) e (T .rows - e))
+
+  -- Every row between is stepped over.
+  pub embargo-steps : (i : ℕ) → e ≤ i → i < embargoFrom T b e → stepped T (latest T b e) i ≡ true
+  embargo-steps i g h =
+      not-false (stepped T (latest T b e) i) (firstFrom-before (λ i. not (stepped T (latest T b e) i)) e (T .rows - e) i g h)
+
+  -- The row where it begins is not.
+  pub embargo-begins : e ≤ T .rows → embargoFrom T b e < T .rows → stepped T (latest T b e) (embargoFrom T b e) ≡ false
+  embargo-begins g h =
+      not-true (stepped T (latest T b e) (embargoFrom T b e))
+      (firstFrom-is (λ i. not (stepped T (latest T b e) i)) e (T .rows - e) (omega arith))
+
+  -- It covers width rows, and fewer only where the rows end.
+  pub embargo-covers :
+      (width : ℕ) → e ≤ T .rows →
+      count (within (embargoFrom T b e) (embargoFrom T b e + width)) (T .rows) ≡ min width (T .rows - embargoFrom T b e)
+  embargo-covers width h =
+      count-within (embargoFrom T b e) (embargoFrom T b e + width) (T .rows) ∙ cut (T .rows) (embargoFrom T b e) width
+    where
+      cut : (n f w : ℕ) → min n (f + w) - f ≡ min w (n - f)
+      cut n f w = omega arith
+
+-- An embargo of no width covers no row.
+pub embargoed-none : (T : Table) (t : Rows) (i : ℕ) → embargoed T t 0 i ≡ false
+embargoed-none T t i =
+    any-none _ (T .rows)
+    (λ b l.
+    ap (λ x. begins t b && x) (empty (embargoFrom T b (past (T .rows) t b)) (decLt i (embargoFrom T b (past (T .rows) t b))))
+    ∙ and-false (begins t b))
+  where
+    empty : (f : ℕ) → Dec (i < f) → within f (f + 0) i ≡ false
+    empty f (yes h) = within-before f (f + 0) i h
+    empty f (no h) = within-behind f (f + 0) i (omega arith)
