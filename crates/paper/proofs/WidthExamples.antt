@@ -1,32 +1,11 @@
--- The worked examples of the embargo width (01, "Examples on the edges"), with those that tell the rule from its neighbours. Both sides of each
--- equation are computed. A double is written by its bit pattern, as the machine holds it.
+-- Examples of the embargo width and of fractions beside the five widths in Examples.antt: those that tell the rule from its neighbours.
+-- Both sides of each equation are computed. A double is written by its bit pattern, as the machine holds it.
 use mathlib.Core.Path.{_≡_, refl}
 use mathlib.Core.Bool.{true, false}
 use lib.Ieee.{binary64, ofBits}
 use Rattle.paper.specs.Width.{isFraction, widthOf}
 
--- 01's five.
-pub record Widths : Type 0 where
-  -- 0.07: the product is a little above 7
-  pub seven-hundredths : widthOf (ofBits binary64 0x3fb1_eb85_1eb8_51ec) 100 ≡ 8
-  -- 0.01: the exact product is a little above 1 too, and rounds to 1
-  pub one-hundredth : widthOf (ofBits binary64 0x3f84_7ae1_47ae_147b) 100 ≡ 1
-  pub minus-zero : widthOf (ofBits binary64 0x8000_0000_0000_0000) 100 ≡ 0
-  pub smallest-positive : widthOf (ofBits binary64 0x0000_0000_0000_0001) 2 ≡ 1
-  pub largest-below-one : widthOf (ofBits binary64 0x3fef_ffff_ffff_ffff) 5 ≡ 5
-
-pub widths : Widths
-unfolding widthOf ofBits
-widths =
-    record {
-      seven-hundredths = refl;
-      one-hundredth = refl;
-      minus-zero = refl;
-      smallest-positive = refl;
-      largest-below-one = refl;
-    }
-
--- Two that hang on the last of the 53 digits.
+-- Two widths that hang on the last of the 53 digits.
 pub record LastDigit : Type 0 where
   -- 0.5 + 2^-53: the product 1 + 2^-52 needs all 53 digits, and is a double; 52 digits would make it 1
   pub all-53-count : widthOf (ofBits binary64 0x3fe0_0000_0000_0001) 2 ≡ 2
@@ -37,6 +16,7 @@ pub last-digit : LastDigit
 unfolding widthOf ofBits
 last-digit = record { all-53-count = refl; tie-to-even = refl }
 
+-- The edges of [0,1).
 pub record Fractions : Type 0 where
   pub zero : isFraction (ofBits binary64 0x0000_0000_0000_0000) ≡ true
   pub minus-zero : isFraction (ofBits binary64 0x8000_0000_0000_0000) ≡ true

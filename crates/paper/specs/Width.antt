@@ -2,7 +2,7 @@
 -- not below it. And which doubles are fractions: those in [0,1).
 -- Every finite double is a whole multiple of 2^-1074, the smallest positive one. Here that is the unit, and sizes are counts of it: 1.0 is
 -- 2 ^ 1074 units, the exact product is a product of whole numbers, and to round is to divide and look at the remainder.
--- The laws that say what these definitions mean stand in proofs/WidthMeaning.antt, the worked examples in proofs/WidthExamples.antt.
+-- The laws that say what these definitions mean stand in proofs/WidthMeaning.antt, the worked examples in proofs/Examples.antt and proofs/WidthExamples.antt.
 use Prim.Native.Nat.{ℕ, zero, suc, _+_, _-_, _*_, _/_, _%_, _^_, compare, Ordering, Ordering·lt, Ordering·eq, Ordering·gt}
 use mathlib.Core.Bool.{Bool, true, false}
 use lib.IntN.{pos, negsuc}
