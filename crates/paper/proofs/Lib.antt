@@ -15,3 +15,5 @@ pub mod Rows
 pub mod SetsExamples
 pub mod SpansMeaning
 pub mod Times
+pub mod WidthExamples
+pub mod WidthMeaning

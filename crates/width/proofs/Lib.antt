@@ -1,0 +1,3 @@
+-- What the functions' proofs cite.
+mod Product
+mod Tested
