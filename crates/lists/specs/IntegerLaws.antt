@@ -5,7 +5,7 @@ use Prim.Native.Nat.{ℕ}
 use native.Mathlib.Omega.{arith}
 use lib.IntN.{ℤ, pos, negsuc}
 use lib.Signed.{leZ, ltZ}
-use borrow.Author.Tests.{leb-true, leb-false, ltb-true, ltb-false, le-leb}
+use borrow.Author.Tests.{leb-true, ltb-true, ltb-false, le-leb, lt-leb}
 use Rattle.lists.specs.AnyLaws.{never}
 
 pub leZ-refl : (a : ℤ) → leZ a a ≡ true
@@ -36,9 +36,9 @@ ltZ-not (pos a) (negsuc b) h = refl
 ltZ-not (negsuc a) (pos b) h = never {b = true} refl h
 ltZ-not (negsuc a) (negsuc b) h = le-leb a b (omega (arith, ltb-false b a h))
 
--- One of the two is at least the other.
-pub leZ-total : (a b : ℤ) → leZ a b ≡ false → leZ b a ≡ true
-leZ-total (pos a) (pos b) h = le-leb b a (omega (arith, leb-false a b h))
-leZ-total (pos a) (negsuc b) h = refl
-leZ-total (negsuc a) (pos b) h = never {b = true} refl h
-leZ-total (negsuc a) (negsuc b) h = le-leb a b (omega (arith, leb-false b a h))
+-- Less is not at least.
+pub ltZ-above : (a b : ℤ) → ltZ a b ≡ true → leZ b a ≡ false
+ltZ-above (pos a) (pos b) h = lt-leb b a (ltb-true a b h)
+ltZ-above (pos a) (negsuc b) h = never {b = false} h refl
+ltZ-above (negsuc a) (pos b) h = refl
+ltZ-above (negsuc a) (negsuc b) h = lt-leb a b (ltb-true b a h)

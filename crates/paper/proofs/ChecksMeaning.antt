@@ -2,18 +2,20 @@
 use mathlib.Core.Path.{_≡_, refl}
 use mathlib.Core.Bool.{Bool, true, false, not, _&&_, _||_}
 use mathlib.Core.List.{List, [], _∷_, _++_}
+use Prim.{Unit, tt}
 use Prim.Native.Nat.{ℕ}
 use lib.Dec.{eqb}
 use lib.IntN.{ℤ}
 use lib.Ieee.{Float}
-use borrow.Author.Tests.{not-true}
+use borrow.Author.Tests.{not-true, ne-eqb}
 use Rattle.lists.specs.AnyLaws.{both}
 use Rattle.paper.specs.declared.settings.Settings.{Settings}
 use Rattle.paper.specs.Marks.{byWindow, byPair}
-use Rattle.paper.specs.Refusals.{done, refused}
+use Rattle.paper.specs.Refusals.{Carried, done, refused}
 use Rattle.paper.specs.Checks.{
   Check,
   checked,
+  lent,
   kfoldChecks,
   cpcvChecks,
   walkForwardChecks,
@@ -52,28 +54,28 @@ Has chain numbers = (numbersOf chain ≡ numbers) × (partOf numbers tableOrder 
 
 -- Each call's numbers, whatever it is called with.
 module _
-    (starts ends testStarts testEnds : List ℤ) (st : Settings) (x : Float) (n N k m s p g a size step : ℕ) (marks lent set train test : List ℕ)
+    (starts ends testStarts testEnds : List ℤ) (st : Settings) (x : Float) (n N k m s p g a size step : ℕ) (marks room set train test : List ℕ)
     (returns output : List Float)
   where
     pub record Chains : Type 0 where
-      pub kfold-window : Has (kfoldChecks byWindow starts ends st s lent marks) (12 ∷ 1 ∷ 10 ∷ 2 ∷ 3 ∷ 4 ∷ 5 ∷ 13 ∷ [])
-      pub kfold-pair : Has (kfoldChecks byPair starts ends st s lent marks) (12 ∷ 1 ∷ 10 ∷ 2 ∷ 3 ∷ 4 ∷ 5 ∷ 13 ∷ 17 ∷ [])
+      pub kfold-window : Has (kfoldChecks byWindow starts ends st s room marks) (12 ∷ 1 ∷ 10 ∷ 2 ∷ 3 ∷ 4 ∷ 5 ∷ 13 ∷ [])
+      pub kfold-pair : Has (kfoldChecks byPair starts ends st s room marks) (12 ∷ 1 ∷ 10 ∷ 2 ∷ 3 ∷ 4 ∷ 5 ∷ 13 ∷ 17 ∷ [])
       pub cpcv-window :
-          Has (cpcvChecks byWindow starts ends st k s lent marks) (12 ∷ 1 ∷ 10 ∷ 2 ∷ 3 ∷ 4 ∷ 5 ∷ 6 ∷ 11 ∷ 8 ∷ 13 ∷ [])
+          Has (cpcvChecks byWindow starts ends st k s room marks) (12 ∷ 1 ∷ 10 ∷ 2 ∷ 3 ∷ 4 ∷ 5 ∷ 6 ∷ 11 ∷ 8 ∷ 13 ∷ [])
       pub cpcv-pair :
-          Has (cpcvChecks byPair starts ends st k s lent marks) (12 ∷ 1 ∷ 10 ∷ 2 ∷ 3 ∷ 4 ∷ 5 ∷ 6 ∷ 11 ∷ 8 ∷ 13 ∷ 17 ∷ [])
-      pub walk-forward : Has (walkForwardChecks starts ends st m s lent) (12 ∷ 1 ∷ 10 ∷ 2 ∷ 3 ∷ 4 ∷ 5 ∷ 7 ∷ 13 ∷ [])
+          Has (cpcvChecks byPair starts ends st k s room marks) (12 ∷ 1 ∷ 10 ∷ 2 ∷ 3 ∷ 4 ∷ 5 ∷ 6 ∷ 11 ∷ 8 ∷ 13 ∷ 17 ∷ [])
+      pub walk-forward : Has (walkForwardChecks starts ends st m s room) (12 ∷ 1 ∷ 10 ∷ 2 ∷ 3 ∷ 4 ∷ 5 ∷ 7 ∷ 13 ∷ [])
       pub rolling :
-          Has (rollingChecks starts ends x a size step s lent marks) (12 ∷ 1 ∷ 10 ∷ 3 ∷ 4 ∷ 5 ∷ 15 ∷ 16 ∷ 13 ∷ 17 ∷ [])
-      pub naive : Has (naiveChecks n N s lent) (2 ∷ 5 ∷ 13 ∷ [])
+          Has (rollingChecks starts ends x a size step s room marks) (12 ∷ 1 ∷ 10 ∷ 3 ∷ 4 ∷ 5 ∷ 15 ∷ 16 ∷ 13 ∷ 17 ∷ [])
+      pub naive : Has (naiveChecks n N s room) (2 ∷ 5 ∷ 13 ∷ [])
       pub overlap-count : Has (overlapChecks starts ends train test) (12 ∷ 9 ∷ [])
-      pub train-times : Has (trainTimesChecks starts ends testStarts testEnds lent) (12 ∷ 12 ∷ 5 ∷ [])
+      pub train-times : Has (trainTimesChecks starts ends testStarts testEnds room) (12 ∷ 12 ∷ 5 ∷ [])
       pub joining : Has (joiningChecks n N k p returns output) (1 ∷ 10 ∷ 2 ∷ 5 ∷ 6 ∷ 11 ∷ 8 ∷ 13 ∷ 18 ∷ 19 ∷ [])
       pub numbers : Has (numbersChecks N k) (2 ∷ 6 ∷ 11 ∷ 8 ∷ [])
       pub split : Has (splitChecks N k s) (2 ∷ 6 ∷ 11 ∷ 8 ∷ 13 ∷ [])
       pub fold-set : Has (setChecks N k set) (2 ∷ 6 ∷ 11 ∷ 8 ∷ 13 ∷ [])
       pub path : Has (pathChecks N k p g) (2 ∷ 6 ∷ 11 ∷ 8 ∷ 13 ∷ 13 ∷ [])
-      pub whole-path : Has (wholePathChecks N k p lent) (2 ∷ 5 ∷ 6 ∷ 11 ∷ 8 ∷ 13 ∷ [])
+      pub whole-path : Has (wholePathChecks N k p room) (2 ∷ 5 ∷ 6 ∷ 11 ∷ 8 ∷ 13 ∷ [])
 
     pub chains : Chains
     chains =
@@ -102,6 +104,15 @@ abbrev pub clear : List Check → Bool
 clear [] = true
 clear (c ∷ cs) = not (c .due) && clear cs
 
+-- The same, check by check.
+abbrev pub Clear : List Check → Type 0
+Clear [] = Unit {0}
+Clear (c ∷ cs) = (c .due ≡ false) × Clear cs
+
+pub clear-each : (cs : List Check) → clear cs ≡ true → Clear cs
+clear-each [] h = tt
+clear-each (c ∷ cs) h = let t = both {a = not (c .due)} h in (not-true (c .due) (t .0), clear-each cs (t .1))
+
 -- The result, where none is due.
 pub checked-clear : {A : Type 0} (cs : List Check) (a : A) → clear cs ≡ true → checked cs a ≡ done a
 unfolding checked
@@ -119,3 +130,10 @@ checked-first [] c behind a h e = rw e
 checked-first (b ∷ before) c behind a h e =
     let t = both {a = not (b .due)} h in
     rw (not-true (b .due) (t .0)) (checked-first before c behind a (t .1) e)
+
+-- A refusal leaves lent memory as it was; 17 leaves the marks written.
+pub lent-kept : (A : Type 0) {B : Type 0} (number : ℕ) (carried : Carried) (old new : List B) → (number ≡ 17 → ⊥) → lent {A = A} (refused number carried) old new ≡ old
+lent-kept A number carried old new h = rw (ne-eqb number 17 h)
+
+pub lent-written : (A : Type 0) {B : Type 0} (carried : Carried) (old new : List B) → lent {A = A} (refused 17 carried) old new ≡ new
+lent-written A carried old new = refl

@@ -13,7 +13,7 @@ use Rattle.paper.specs.Spans.{Table}
 use Rattle.paper.specs.Folds.{Rows, within}
 use Rattle.paper.specs.Blocks.{begins, past, latest}
 use Rattle.paper.specs.Embargo.{stepped, embargoFrom, embargoed}
-use Rattle.paper.proofs.FoldsMeaning.{within-before, within-behind, count-within}
+use Rattle.paper.proofs.FoldsMeaning.{within-before, within-behind, count-within-from}
 
 -- The block b up to e of a table.
 module _ (T : Table) (b e : ℕ) where
@@ -36,13 +36,9 @@ module _ (T : Table) (b e : ℕ) where
 
   -- It covers width rows, and fewer only where the rows end.
   pub embargo-covers :
-      (width : ℕ) → e ≤ T .rows →
+      (width : ℕ) →
       count (within (embargoFrom T b e) (embargoFrom T b e + width)) (T .rows) ≡ min width (T .rows - embargoFrom T b e)
-  embargo-covers width h =
-      count-within (embargoFrom T b e) (embargoFrom T b e + width) (T .rows) ∙ cut (T .rows) (embargoFrom T b e) width
-    where
-      cut : (n f w : ℕ) → min n (f + w) - f ≡ min w (n - f)
-      cut n f w = omega arith
+  embargo-covers width = count-within-from (embargoFrom T b e) width (T .rows)
 
 -- An embargo of no width covers no row.
 pub embargoed-none : (T : Table) (t : Rows) (i : ℕ) → embargoed T t 0 i ≡ false

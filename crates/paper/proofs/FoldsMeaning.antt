@@ -42,6 +42,10 @@ count-within b e (suc n) = rw (count-within b e n) (go (decLt n b) (decLt n e))
     go (no g) (yes l) = rw (within-in b e n (omega arith) l) (omega arith)
     go (no g) (no k) = rw (within-behind b e n (omega arith)) (omega arith)
 
+-- Of w rows from f on, as many as there are.
+pub count-within-from : (f w n : ℕ) → count (within f (f + w)) n ≡ min w (n - f)
+count-within-from f w n = count-within f (f + w) n ∙ omega arith
+
 -- ---- any borders
 
 -- N + 1 borders of n rows: from 0, strictly rising, to n.

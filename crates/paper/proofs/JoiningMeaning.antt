@@ -1,14 +1,18 @@
 -- What the places of joined returns mean (01, "Combinations and paths": Joining): they run through 0, 1, 2, .. split after
 -- split, and within a split row after row, a place for each row that the split tests.
 use mathlib.Core.Path.{_≡_, refl}
-use mathlib.Core.Bool.{Bool}
+use mathlib.Core.Bool.{Bool, true, false}
+use mathlib.Core.List.{[], _∷_}
 use Prim.Native.Nat.{ℕ, _+_}
 use native.Mathlib.Numerals.{add-one}
 use native.Mathlib.Omega.{arith}
-use Rattle.lists.specs.Base.{bit, count, sum}
+use lib.Ieee.{binary64, ofBits}
+use Rattle.lists.specs.Base.{bit, tab, count, sum, firstFrom}
 use Rattle.lists.specs.CountLaws.{count-more}
-use Rattle.paper.specs.Folds.{Rows}
-use Rattle.paper.specs.Joining.{placeOf}
+use Rattle.paper.specs.Folds.{Rows, folds, evenBorder, evenBorders}
+use Rattle.paper.specs.Joining.{placeOf, placeOnPath, finite}
+use Rattle.paper.specs.Sets.{listing, each}
+use Rattle.paper.specs.Paths.{holds, testsOf}
 
 module _ (tests : ℕ → Rows) (n : ℕ) where
   pub place-first : placeOf tests n 0 0 ≡ 0
@@ -23,3 +27,17 @@ module _ (tests : ℕ → Rows) (n : ℕ) where
   pub place-split : (i : ℕ) → placeOf tests n (i + 1) 0 ≡ placeOf tests n i n
   unfolding sum count
   place-split i = rw add-one (omega arith)
+
+-- Five rows in four folds, two tested: the returns of the splits {0,1} {0,2} {0,3} {1,2} {1,3} {2,3} begin at 0, 3, 6, 9, 11
+-- and 13, and path 1 takes the splits 1, 3, 3, 4.
+pub places-of-five : tab (placeOnPath (evenBorders 5 4) 4 2 1) 5 ≡ 3 ∷ 4 ∷ 9 ∷ 10 ∷ 12 ∷ []
+unfolding placeOnPath tab sum count firstFrom folds evenBorder listing each holds testsOf
+places-of-five = refl
+
+-- Of the doubles the infinities and the NaN are not finite.
+pub finite-doubles :
+    (finite (ofBits binary64 0x8000000000000000) ≡ true) × (finite (ofBits binary64 0x7FEFFFFFFFFFFFFF) ≡ true)
+    × (finite (ofBits binary64 0x7FF0000000000000) ≡ false) × (finite (ofBits binary64 0xFFF0000000000000) ≡ false)
+    × (finite (ofBits binary64 0x7FF8000000000000) ≡ false)
+unfolding ofBits
+finite-doubles = (refl, refl, refl, refl, refl)

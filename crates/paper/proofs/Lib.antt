@@ -2,13 +2,16 @@
 pub mod AnswersMeaning
 pub mod BlocksMeaning
 pub mod ChecksMeaning
+pub mod Domains
 pub mod EmbargoMeaning
 pub mod Examples
 pub mod FoldsMeaning
 pub mod JoiningMeaning
+pub mod LayoutsMeaning
 pub mod Listing
 pub mod ListingMeaning
 pub mod MarksMeaning
+pub mod OverlapsMeaning
 pub mod PathsMeaning
 pub mod RefusalsMeaning
 pub mod Rows

@@ -2,17 +2,15 @@
 -- number of rows of its kind.
 use mathlib.Core.Path.{_≡_, refl, sym, _∙_}
 use mathlib.Core.Bool.{Bool, true, false, _&&_, _||_, not}
-use Prim.Native.Nat.{ℕ, zero, suc, _+_, _≤_}
+use Prim.Native.Nat.{ℕ, zero, suc, _+_}
 use native.Mathlib.Omega.{arith}
 use lib.Dec.{eqb}
-use borrow.Author.Tests.{le-leb, eqb-true, ne-eqb}
+use borrow.Author.Tests.{eqb-true, ne-eqb}
 use Rattle.lists.specs.Base.{bit, tab, count, tally}
 use Rattle.lists.specs.CountLaws.{count-ext, count-or, tally-tab}
 use Rattle.paper.specs.Spans.{Table}
 use Rattle.paper.specs.Marks.{Rule, purged, Split, mark, markOf, marksOf, countsOf}
 use Rattle.paper.specs.Embargo.{embargoed}
-use Rattle.paper.specs.Layouts.{forward}
-use Rattle.paper.proofs.FoldsMeaning.{within-behind}
 
 -- ---- one row
 
@@ -107,10 +105,3 @@ module _ (r : Rule) (T : Table) (s : Split) where
   unfolding markOf
   count-embargoed =
       two-tallies 3 4 (markOf r T s) (T .rows) (omega arith) ∙ count-ext _ _ (T .rows) (λ i h. says i .some-embargo)
-
--- ---- layouts that go forward: walk-forward and rolling
-
--- Rows behind the tested ones take no part.
-pub forward-later : (r : Rule) (T : Table) (b e i : ℕ) → e ≤ i → markOf r T (forward b e) i ≡ 5
-unfolding markOf
-forward-later r T b e i h = rw (within-behind b e i h, le-leb e i h)

@@ -1,13 +1,12 @@
--- What the tests of spans mean (01, "Rows, times, settings"): overlap goes both ways, a span in order overlaps itself, and for
--- spans in order `ml_get_train_times` drops exactly what overlaps. 01's span (4,1) shows that it is another rule elsewhere.
+-- What the tests of spans mean (01, "Rows, times, settings"): overlap goes both ways, a span in order overlaps itself, a span
+-- passes unless it ends before its start, and the three ways in which `ml_get_train_times` drops a span.
 use mathlib.Core.Path.{_≡_, refl}
-use mathlib.Core.Bool.{Bool, true, false, _&&_, _||_, and-comm, or-true}
+use mathlib.Core.Bool.{Bool, true, false, not, and-comm}
 use lib.IntN.{ℤ, pos}
 use lib.Signed.{leZ, ltZ}
-use Rattle.lists.specs.AnyLaws.{both, never}
-use Rattle.lists.specs.IntegerLaws.{leZ-trans, leZ-total}
+use Rattle.lists.specs.IntegerLaws.{ltZ-not, ltZ-above}
 use Rattle.paper.specs.declared.span.Span.{Span}
-use Rattle.paper.specs.Spans.{Table, reaches, overlap, drops}
+use Rattle.paper.specs.Spans.{Table, reaches, good, overlap, drops}
 
 pub overlap-symmetric : (a b : Span) → overlap a b ≡ overlap b a
 overlap-symmetric a b = and-comm (reaches (a .start) (b .end)) (reaches (b .start) (a .end))
@@ -28,3 +27,12 @@ pub drops-ways :
     (drops (span (pos 3) (pos 5)) (span (pos 4) (pos 9)) ≡ true) × (drops (span (pos 3) (pos 5)) (span (pos 1) (pos 4)) ≡ true)
     × (drops (span (pos 3) (pos 5)) (span (pos 1) (pos 9)) ≡ true)
 drops-ways = (refl, refl, refl)
+
+-- A span passes unless its end is before its start.
+pub good-is : (T : Table) (a : Span) → good T a ≡ not (ltZ (a .end) (a .start))
+unfolding reaches
+good-is T a = go (ltZ (a .end) (a .start)) refl
+  where
+    go : (t : Bool) → ltZ (a .end) (a .start) ≡ t → leZ (a .start) (a .end) ≡ not t
+    go true h = ltZ-above (a .end) (a .start) h
+    go false h = ltZ-not (a .end) (a .start) h

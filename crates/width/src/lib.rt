@@ -9,7 +9,6 @@ ghost use Prim.Native.Nat.{_≤_};
 ghost use Rattle.paper.specs.Checks.{checked};
 ghost use Rattle.paper.specs.Width.{isFraction, widthOf};
 ghost use Rattle.width.specs.Answer.{saidWidth, widthChecks};
-
 use paper::Refusal;
 use paper::Settings;
 
