@@ -5,5 +5,6 @@ pub mod CountLaws
 pub mod FirstLaws
 pub mod IntegerLaws
 pub mod OverLaws
+pub mod SearchLaws
 pub mod SignedLaws
 pub mod TabLaws
