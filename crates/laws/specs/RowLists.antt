@@ -1,0 +1,60 @@
+-- The rows with a property as a list, in row order: what the overlap count is asked about.
+use mathlib.Core.Path.{_≡_, refl, ap, _∙_}
+use mathlib.Core.Bool.{Bool, true, false, _&&_}
+use mathlib.Core.List.{List, [], _∷_, _++_}
+use Prim.Native.Nat.{ℕ, zero, suc, _+_, _<_}
+use native.Mathlib.Omega.{arith}
+use native.Mathlib.Decide.{decLt}
+use lib.ListN.{length, getD, length-append, List·getD-append}
+use lib.Seq.{getD-at}
+use Rattle.lists.specs.AnyLaws.{any-none, any-each}
+use Rattle.lists.specs.CountLaws.{count-none}
+use Rattle.paper.specs.Spans.{Table, overlaps}
+use Rattle.paper.specs.Folds.{Rows}
+use Rattle.paper.specs.Marks.{meets}
+use Rattle.paper.specs.Overlaps.{leaks, overlapCount}
+
+-- Row n where the answer is yes.
+abbrev pub only : Bool → ℕ → List ℕ
+only true n = n ∷ []
+only false n = []
+
+-- The rows below n that are in p.
+unfoldable pub rowsOf : Rows → ℕ → List ℕ
+rowsOf p zero = []
+rowsOf p (suc n) = rowsOf p n ++ only (p n) n
+
+-- Each entry is such a row.
+pub rowsOf-each :
+    (p : Rows) (n i : ℕ) → i < length (rowsOf p n) → (getD (rowsOf p n) i 0 < n) × (p (getD (rowsOf p n) i 0) ≡ true)
+unfolding rowsOf
+rowsOf-each p zero i h = absurd (omega arith)
+rowsOf-each p (suc n) i h = go (p n) refl (decLt i (length (rowsOf p n))) (rowsOf-each p n i) h
+  where
+    go :
+        (b : Bool) → p n ≡ b → Dec (i < length (rowsOf p n)) →
+        (i < length (rowsOf p n) → (getD (rowsOf p n) i 0 < n) × (p (getD (rowsOf p n) i 0) ≡ true)) →
+        i < length (rowsOf p n ++ only b n) →
+        (getD (rowsOf p n ++ only b n) i 0 < suc n) × (p (getD (rowsOf p n ++ only b n) i 0) ≡ true)
+    go b e (yes l) ih k =
+        let r = ih l in
+        rw (List·getD-append (rowsOf p n) (only b n) 0 i l) (omega (arith, r .0), r .1)
+    go true e (no g) ih k =
+        let z : length (rowsOf p n) ≡ i = omega (arith, rw length-append at k) in
+        rw (getD-at (rowsOf p n) n [] 0 i z) (omega arith, e)
+    go false e (no g) ih k = absurd (g (omega (arith, rw length-append at k)))
+
+-- Rows that meet no test row: their list has overlap count 0 against the list of the test rows.
+pub overlapCount-none :
+    (T : Table) (p t : Rows) → ((i : ℕ) → i < T .rows → p i ≡ true → meets T t i ≡ false) →
+    overlapCount T (rowsOf p (T .rows)) (rowsOf t (T .rows)) ≡ 0
+overlapCount-none T p t free =
+    count-none (leaks T (rowsOf p (T .rows)) (rowsOf t (T .rows))) (length (rowsOf p (T .rows)))
+    (λ i h. any-none _ (length (rowsOf t (T .rows))) (λ j k. one _ _ (rowsOf-each p (T .rows) i h) (rowsOf-each t (T .rows) j k)))
+  where
+    one :
+        (r s : ℕ) → (r < T .rows) × (p r ≡ true) → (s < T .rows) × (t s ≡ true) →
+        overlaps T (T .span r) (T .span s) ≡ false
+    one r s x y =
+        rw (y .1) at
+        (any-each (λ j. t j && overlaps T (T .span r) (T .span j)) (T .rows) s (free r (x .0) (x .1)) (y .0))
