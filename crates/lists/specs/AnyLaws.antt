@@ -1,19 +1,33 @@
 -- Laws of `any`: what makes it true or false, and what it gives back.
 use mathlib.Core.Path.{_≡_, refl, sym, ap, _∙_}
-use mathlib.Core.Bool.{Bool, true, false, _||_, _&&_, or-true}
-use Prim.Native.Nat.{ℕ, zero, suc, _+_, _≤_, _<_}
+use mathlib.Core.Bool.{Bool, true, false, _||_, _&&_, or-true, or-comm, or-assoc}
+use Prim.Native.Nat.{ℕ, zero, suc, _+_, _-_, _≤_, _<_}
 use native.Mathlib.Numerals.{add-one}
 use native.Mathlib.Omega.{arith}
 use native.Mathlib.Decide.{decLt}
-use Rattle.lists.specs.Base.{any}
+use Rattle.lists.specs.Base.{any, anyFrom}
 
 -- True and false are two.
 pub never : {X : Type 0} {b : Bool} → b ≡ true → b ≡ false → X
 never {X} {b} t f = absurd (let y : _≡_ {A = ℕ} 0 1 = let w : _≡_ {A = Bool} true false = sym t ∙ f in cc in omega arith)
 
+-- The turns of a search: nothing looked at, one number more, one more that fails. A hit is `any-here`.
+pub any-zero : (p : ℕ → Bool) → any p 0 ≡ false
+unfolding any
+any-zero p = refl
+
 pub any-more : (p : ℕ → Bool) (n : ℕ) → any p (n + 1) ≡ any p n || p n
 unfolding any
 any-more p n = rw add-one
+
+pub any-miss : (p : ℕ → Bool) (n : ℕ) → any p n ≡ false → p n ≡ false → any p (n + 1) ≡ false
+any-miss p n h e = rw (any-more p n, h, e)
+
+-- The first number apart from the others, as a list is read.
+pub any-first : (p : ℕ → Bool) (n : ℕ) → any p (suc n) ≡ p 0 || any (λ i. p (suc i)) n
+unfolding any
+any-first p zero = or-comm false (p 0)
+any-first p (suc n) = rw (any-first p n) (or-assoc (p 0) (any (λ i. p (suc i)) n) (p (suc n)))
 
 -- A number that passes.
 pub any-here : (p : ℕ → Bool) (n i : ℕ) → i < n → p i ≡ true → any p n ≡ true
@@ -65,3 +79,30 @@ both {a = true} {b = true} h = (refl, refl)
 both {a = true} {b = false} h = never {b = false} h refl
 both {a = false} {b = true} h = never {b = false} h refl
 both {a = false} {b = false} h = never {b = false} h refl
+
+-- Two tests of which each passes where the other does are the same.
+pub both-ways : {a b : Bool} → (a ≡ true → b ≡ true) → (b ≡ true → a ≡ true) → a ≡ b
+both-ways {a = true} {b = true} f g = refl
+both-ways {a = true} {b = false} f g = sym (f refl)
+both-ways {a = false} {b = true} f g = g refl
+both-ways {a = false} {b = false} f g = refl
+
+-- The same of `anyFrom`: the numbers from b up to e.
+module _ (p : ℕ → Bool) (b : ℕ) where
+  pub anyFrom-zero : anyFrom p b b ≡ false
+  anyFrom-zero = let z : b - b ≡ 0 = omega arith in rw z (any-zero (λ m. p (b + m)))
+
+  pub anyFrom-here : (e i : ℕ) → b ≤ i → i < e → p i ≡ true → anyFrom p b e ≡ true
+  anyFrom-here e i g h k =
+      any-here (λ m. p (b + m)) (e - b) (i - b) (omega arith) (let z : b + (i - b) ≡ i = omega arith in rw z k)
+
+  pub anyFrom-some : (e : ℕ) → anyFrom p b e ≡ true → (i : ℕ) × (b ≤ i) × (i < e) × (p i ≡ true)
+  anyFrom-some e h =
+      let r = any-some (λ m. p (b + m)) (e - b) h in
+      (b + r .0, omega arith, omega (arith, r .1), r .2)
+
+  pub anyFrom-miss : (e : ℕ) → b ≤ e → anyFrom p b e ≡ false → p e ≡ false → anyFrom p b (e + 1) ≡ false
+  anyFrom-miss e h f k =
+      let z : e + 1 - b ≡ e - b + 1 = omega arith in
+      let y : b + (e - b) ≡ e = omega arith in
+      rw z (any-miss (λ m. p (b + m)) (e - b) f (rw y k))

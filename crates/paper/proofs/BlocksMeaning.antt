@@ -19,6 +19,16 @@ module _ (n : ℕ) (t : Rows) where
   begins-test zero h = h
   begins-test (suc b) h = both {a = t (suc b)} h .0
 
+  -- The row before it is not tested. These two settle it.
+  pub begins-after : (b : ℕ) → begins t (suc b) ≡ true → t b ≡ false
+  unfolding begins
+  begins-after b h = not-true (t b) (both {a = t (suc b)} h .1)
+
+  pub begins-is : (b : ℕ) → t b ≡ true → ((c : ℕ) → suc c ≡ b → t c ≡ false) → begins t b ≡ true
+  unfolding begins
+  begins-is zero h f = h
+  begins-is (suc b) h f = rw (h, f b refl)
+
   -- The row past a block lies within the rows, or is their end.
   pub past-le : (b : ℕ) → b ≤ n → past n t b ≤ n
   past-le b h = omega (arith, firstFrom-le (λ i. not (t i)) b (n - b))
@@ -52,11 +62,10 @@ module _ (n : ℕ) (t : Rows) where
 
   -- Blocks ascend, are disjoint, and are not adjacent: the row past the earlier one lies before the later one begins.
   pub block-apart : (b c : ℕ) → b < c → c < n → begins t c ≡ true → past n t b < c
-  unfolding begins
   block-apart b (suc c) h k e = go (decLt c (past n t b))
     where
       go : Dec (c < past n t b) → past n t b < suc c
-      go (yes l) = never (past-test b c (omega arith) l) (not-true (t c) (both {a = t (suc c)} e .1))
+      go (yes l) = never (past-test b c (omega arith) l) (begins-after c e)
       go (no g) = omega arith
 
   -- From a test row back to the row that begins its run.
