@@ -1,5 +1,5 @@
 -- Laws of `any`: what makes it true or false, and what it gives back.
-use mathlib.Core.Path.{_≡_, refl, sym, ap, _∙_}
+use mathlib.Core.Path.{_≡_, refl, sym, _∙_}
 use mathlib.Core.Bool.{Bool, true, false, _||_, _&&_, or-true, or-comm, or-assoc}
 use Prim.Native.Nat.{ℕ, zero, suc, _+_, _-_, _≤_, _<_}
 use native.Mathlib.Numerals.{add-one}
@@ -86,6 +86,16 @@ both-ways {a = true} {b = true} f g = refl
 both-ways {a = true} {b = false} f g = sym (f refl)
 both-ways {a = false} {b = true} f g = g refl
 both-ways {a = false} {b = false} f g = refl
+
+-- A test that passes only where another does fails with it.
+pub if-not : {a b : Bool} → (a ≡ true → b ≡ true) → b ≡ false → a ≡ false
+if-not {a = true} f h = never (f refl) h
+if-not {a = false} f h = refl
+
+-- Behind `a &&` only what holds under a matters.
+pub and-ext : (a : Bool) {b c : Bool} → (a ≡ true → b ≡ c) → a && b ≡ a && c
+and-ext true f = f refl
+and-ext false f = refl
 
 -- The same of `anyFrom`: the numbers from b up to e.
 module _ (p : ℕ → Bool) (b : ℕ) where

@@ -6,4 +6,5 @@ pub mod FirstLaws
 pub mod IntegerLaws
 pub mod OverLaws
 pub mod SignedLaws
+pub mod StoreLaws
 pub mod TabLaws

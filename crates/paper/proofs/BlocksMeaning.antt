@@ -1,12 +1,11 @@
 -- What blocks mean (01, "Purge, embargo, marks"): they are not empty, hold test rows only, come one behind the other with a
 -- row between them that is not tested, and hold every test row. That they are maximal is the last two together.
-use mathlib.Core.Path.{_≡_, refl, sym, ap, _∙_}
-use mathlib.Core.Bool.{Bool, true, false, _&&_, not}
-use Prim.Native.Nat.{ℕ, zero, suc, _+_, _-_, _≤_, _<_}
+use mathlib.Core.Path.{_≡_, refl, _∙_}
+use mathlib.Core.Bool.{Bool, true, false, not}
+use Prim.Native.Nat.{ℕ, zero, suc, _-_, _≤_, _<_}
 use native.Mathlib.Omega.{arith}
 use native.Mathlib.Decide.{decLt}
 use borrow.Author.Tests.{not-true, not-false}
-use Rattle.lists.specs.Base.{firstFrom}
 use Rattle.lists.specs.AnyLaws.{never, both}
 use Rattle.lists.specs.FirstLaws.{firstFrom-ge, firstFrom-le, firstFrom-is, firstFrom-before, firstFrom-at, firstFrom-none}
 use Rattle.paper.specs.Folds.{Rows}
