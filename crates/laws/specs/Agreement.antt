@@ -9,26 +9,25 @@
 use mathlib.Core.Path.{_≡_, refl, sym, ap, _∙_}
 use mathlib.Core.Bool.{Bool, true, false, _&&_, not}
 use mathlib.Core.List.{List}
-use Prim.Native.Nat.{ℕ, _+_, _≤_, _<_}
+use Prim.Native.Nat.{ℕ, _<_}
 use native.Mathlib.Omega.{arith}
 use native.Mathlib.Decide.{decLt}
 use lib.Dec.{eqb}
 use borrow.Author.Tests.{not-true}
-use Rattle.lists.specs.Base.{tab}
-use Rattle.lists.specs.AnyLaws.{never, both, any-here, any-some}
+use Rattle.lists.specs.AnyLaws.{never, both, both-ways, any-some}
 use Rattle.lists.specs.TabLaws.{tab-ext}
 use Rattle.paper.specs.Spans.{Table, overlaps}
 use Rattle.paper.specs.Folds.{Rows}
-use Rattle.paper.specs.Blocks.{begins, past, window}
+use Rattle.paper.specs.Blocks.{begins, past}
 use Rattle.paper.specs.Embargo.{embargoed}
-use Rattle.paper.specs.Marks.{Rule, byWindow, byPair, meets, meetsWindow, purged, Split, mark, markOf, marksOf}
+use Rattle.paper.specs.Marks.{Rule, byWindow, byPair, meets, purged, Split, mark, markOf, marksOf}
 use Rattle.paper.specs.Layouts.{kfold, cpcv, walkForward, rolling}
 use Rattle.paper.specs.Overlaps.{overlapCount}
-use Rattle.paper.proofs.Times.{_⊑_}
-use Rattle.paper.proofs.BlocksMeaning.{begins-test, past-le, past-test, block-some, block-of}
+use Rattle.paper.proofs.BlocksMeaning.{past-le, past-test, block-some}
 use Rattle.paper.proofs.MarksMeaning.{mark-says}
-use Rattle.laws.specs.Windows.{Ordered, Good, ordered-le, window-begins, window-ends, window-from}
-use Rattle.laws.specs.Unordered.{windowAt, purged-window, purged-pair-first, purged-pair-last}
+use Rattle.laws.specs.Windows.{Ordered, Good, ordered-le, window-begins, window-ends, window-from, window-to}
+use Rattle.laws.specs.SpanLaws.{meets-held}
+use Rattle.laws.specs.Unordered.{windowAt, purged-pair-first, purged-pair-last}
 use Rattle.laws.specs.RowLists.{rowsOf, overlapCount-none}
 
 -- ---- any table
@@ -74,15 +73,9 @@ no-overlaps-pair T s = free-overlaps byPair T s (λ i h. trained-pair T s i)
 -- ---- tables in order
 
 module _ {T : Table} (g : Good T) (o : Ordered T) where
-  -- The test row that is met lies in a block, and its window holds it.
+  -- A block's window holds its rows.
   pair-window : (t : Rows) (i : ℕ) → purged byPair T t i ≡ true → purged byWindow T t i ≡ true
-  pair-window t i h =
-      let m = any-some (λ j. t j && overlaps T (T .span i) (T .span j)) (T .rows) h in
-      let e = both {a = t (m .0)} (m .2) in
-      let k = block-of (T .rows) t (m .0) (m .1) (e .0) in
-      purged-window T t i (k .0) (m .0) (k .1) (k .3) (m .1) (k .2)
-      (window-from T (k .0) _ o (m .0) (k .1) (k .3) (past-le (T .rows) t (k .0) (omega arith)))
-      (e .1)
+  pair-window t = meets-held (record { from = λ b j g h l. window-from T b _ o j g h l; to = λ b j g h. window-to T b _ j g h })
 
   -- A row before the block meets the row that gives the window its start, one behind it the row that gives it its end.
   window-pair : (t : Rows) (i : ℕ) → i < T .rows → t i ≡ false → purged byWindow T t i ≡ true → purged byPair T t i ≡ true
@@ -105,13 +98,7 @@ module _ {T : Table} (g : Good T) (o : Ordered T) where
 
   -- Outside the test rows both rules purge the same rows.
   pub purged-same : (t : Rows) (i : ℕ) → i < T .rows → t i ≡ false → purged byWindow T t i ≡ purged byPair T t i
-  purged-same t i l f = go (purged byWindow T t i) (purged byPair T t i) refl refl
-    where
-      go : (a b : Bool) → purged byWindow T t i ≡ a → purged byPair T t i ≡ b → purged byWindow T t i ≡ purged byPair T t i
-      go true true x y = x ∙ sym y
-      go true false x y = never (window-pair t i l f x) y
-      go false true x y = never (pair-window t i y) x
-      go false false x y = x ∙ sym y
+  purged-same t i l f = both-ways (window-pair t i l f) (pair-window t i)
 
   -- So they give each row the same mark ..
   pub mark-same : (s : Split) (i : ℕ) → i < T .rows → markOf byWindow T s i ≡ markOf byPair T s i

@@ -1,16 +1,16 @@
 -- Test rows as code holds them: a few ranges of rows, ascending, not empty, which may touch. Range j has the rows from F j
 -- up to G j. Ranges that touch make one block (01), so a block begins at a range that does not touch the one before it, and
 -- ends where the last range ends that it runs into. All of that is in `any-blocks`, `past-on` and `past-ends`.
-use mathlib.Core.Path.{_≡_, refl, sym, ap, _∙_, fun-ext}
-use mathlib.Core.Bool.{Bool, true, false, _&&_, _||_, not}
+use mathlib.Core.Path.{_≡_, refl, ap₂, fun-ext}
+use mathlib.Core.Bool.{Bool, true, false, _&&_, not}
 use Prim.Native.Nat.{ℕ, zero, suc, _+_, _-_, _≤_, _<_}
 use native.Mathlib.Numerals.{add-one}
 use native.Mathlib.Omega.{arith}
 use native.Mathlib.Decide.{decLt, le-ind}
 use lib.Dec.{eqb}
-use borrow.Author.Tests.{not-true, eqb-true, eqb-false, eq-eqb, ne-eqb}
-use Rattle.lists.specs.Base.{any}
-use Rattle.lists.specs.AnyLaws.{never, both, both-ways, any-here, any-some, any-none}
+use borrow.Author.Tests.{not-true, eqb-true, eqb-false}
+use Rattle.lists.specs.Base.{any, anyFrom}
+use Rattle.lists.specs.AnyLaws.{never, both, both-ways, any-here, any-some, any-none, any-ext, anyFrom-here, anyFrom-some}
 use Rattle.lists.specs.FirstLaws.{firstFrom-ge}
 use Rattle.paper.specs.Folds.{Rows, within}
 use Rattle.paper.specs.Blocks.{begins, past}
@@ -35,6 +35,22 @@ touches F G j = eqb (G j) (F (j + 1))
 abbrev pub heads : (ℕ → ℕ) → (ℕ → ℕ) → ℕ → Bool
 heads F G zero = true
 heads F G (suc j) = not (touches F G j)
+
+-- Only the first k places of F and G matter, as of two arrays of which k places are filled.
+pub ranged-ext :
+    (F G f g : ℕ → ℕ) (k : ℕ) → ((j : ℕ) → j < k → F j ≡ f j) → ((j : ℕ) → j < k → G j ≡ g j) →
+    ranged F G k ≡ ranged f g k
+ranged-ext F G f g k x y = fun-ext (λ i. any-ext _ _ k (λ j l. ap₂ (λ b e. within b e i) (x j l) (y j l)))
+
+pub ranges-ext :
+    {F G f g : ℕ → ℕ} {k n : ℕ} → Ranges f g k n → ((j : ℕ) → j < k → F j ≡ f j) → ((j : ℕ) → j < k → G j ≡ g j) →
+    Ranges F G k n
+ranges-ext w x y =
+    record {
+      some = λ j l. rw (x j l, y j l) (w .some j l);
+      rise = λ j l. rw (x (j + 1) l, y j (omega arith)) (w .rise j l);
+      fits = λ j l. rw (y j l) (w .fits j l);
+    }
 
 -- As code asks it.
 pub heads-next : (F G : ℕ → ℕ) (j : ℕ) → 0 < j → heads F G j ≡ not (eqb (G (j - 1)) (F j))
@@ -169,3 +185,21 @@ module _ {F G : ℕ → ℕ} {k n : ℕ} (w : Ranges F G k n) where
           let e = both {a = heads F G (m .0)} (m .2) in
           any-here (λ b. begins (ranged F G k) b && P b) n (F (m .0)) (omega (arith, w .some (m .0) (m .1), w .fits (m .0) (m .1)))
           (rw (begins-head (m .0) (m .1), e .0, e .1))
+
+  -- And "some test row" is "some row of some range".
+  pub any-ranged : (P : ℕ → Bool) → any (λ i. ranged F G k i && P i) n ≡ any (λ j. anyFrom P (F j) (G j)) k
+  any-ranged P = both-ways to from
+    where
+      to : any (λ i. ranged F G k i && P i) n ≡ true → any (λ j. anyFrom P (F j) (G j)) k ≡ true
+      to h =
+          let m = any-some (λ i. ranged F G k i && P i) n h in
+          let e = both {a = ranged F G k (m .0)} (m .2) in
+          let r = ranged-some (m .0) (e .0) in
+          any-here (λ j. anyFrom P (F j) (G j)) k (r .0) (r .1) (anyFrom-here P (F (r .0)) (G (r .0)) (m .0) (r .2) (r .3) (e .1))
+
+      from : any (λ j. anyFrom P (F j) (G j)) k ≡ true → any (λ i. ranged F G k i && P i) n ≡ true
+      from h =
+          let m = any-some (λ j. anyFrom P (F j) (G j)) k h in
+          let r = anyFrom-some P (F (m .0)) (G (m .0)) (m .2) in
+          any-here (λ i. ranged F G k i && P i) n (r .0) (omega (arith, w .fits (m .0) (m .1)))
+          (rw (ranged-in (m .0) (r .0) (m .1) (r .1) (r .2), r .3))

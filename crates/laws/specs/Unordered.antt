@@ -4,8 +4,8 @@
 -- the test row starts. A row that overlaps a block's window is purged by the pair rule if it starts no later than the row
 -- of the block whose start is the window's, or no earlier than the row whose end is the window's.
 -- Two tables of four rows show that neither rule's purged rows contain the other's.
-use mathlib.Core.Path.{_≡_, refl, sym, _∙_}
-use mathlib.Core.Bool.{Bool, true, false, _&&_}
+use mathlib.Core.Path.{_≡_, refl}
+use mathlib.Core.Bool.{true, false}
 use Prim.Native.Nat.{ℕ, _≤_, _<_}
 use native.Mathlib.Omega.{arith}
 use Rattle.lists.specs.Base.{any, firstFrom, joinFrom, tab}
@@ -14,7 +14,7 @@ use Rattle.paper.specs.declared.span.Span.{Span}
 use Rattle.paper.specs.Spans.{Table, overlaps, reaches, later}
 use Rattle.paper.specs.Folds.{Rows, within}
 use Rattle.paper.specs.Blocks.{begins, past, window}
-use Rattle.paper.specs.Marks.{Rule, byWindow, byPair, meets, meetsWindow, purged}
+use Rattle.paper.specs.Marks.{Rule, byWindow, byPair, purged}
 use Rattle.paper.proofs.Times.{_⊑_}
 use Rattle.paper.proofs.BlocksMeaning.{past-test}
 use Rattle.paper.proofs.Examples.{late, between}

@@ -1,18 +1,19 @@
 -- Tables in order, tables with good spans, and what a block's window means in them.
-use mathlib.Core.Path.{_≡_, refl, ap}
+use mathlib.Core.Path.{_≡_, refl}
 use mathlib.Core.Bool.{Bool, true, false, not}
-use Prim.Native.Nat.{ℕ, suc, _+_, _≤_, _<_}
+use Prim.Native.Nat.{ℕ, suc, _+_, _-_, _≤_, _<_}
 use native.Mathlib.Numerals.{add-one}
 use native.Mathlib.Omega.{arith}
-use native.Mathlib.Decide.{decLt, le-ind}
-use lib.Dec.{ltb}
+use native.Mathlib.Decide.{le-ind}
+use lib.Signed.{ltZ}
 use borrow.Author.Tests.{not-false, ltb-false}
-use Rattle.lists.specs.Base.{first}
-use Rattle.lists.specs.FirstLaws.{first-le, first-before}
+use Rattle.lists.specs.Base.{first, any}
+use Rattle.lists.specs.AnyLaws.{any-each}
+use Rattle.lists.specs.FirstLaws.{first-before}
 use Rattle.paper.specs.Spans.{Table, good}
 use Rattle.paper.specs.Blocks.{window}
 use Rattle.paper.specs.Checks.{badSpan}
-use Rattle.paper.proofs.Times.{_⊑_, ⊑-refl, ⊑-trans, latest-bound, latest-place}
+use Rattle.paper.proofs.Times.{_⊑_, ⊑-refl, ⊑-trans, ⊑-unless, latest-bound, latest-place}
 
 -- Starts never decrease.
 pub record Ordered (T : Table) : Type 0 where
@@ -30,6 +31,18 @@ good-table T h =
           not-false (good T (T .span i))
           (first-before (λ j. not (good T (T .span j))) (T .rows) i
           (omega (arith, ltb-false (first (λ j. not (good T (T .span j))) (T .rows)) (T .rows) h)));
+    }
+
+-- Some row starts earlier than the row before it. Where none does, starts never decrease.
+abbrev pub falls : Table → Bool
+falls T = any (λ i. ltZ (T .span (i + 1) .start) (T .span i .start)) (T .rows - 1)
+
+pub ordered-table : (T : Table) → falls T ≡ false → Ordered T
+ordered-table T h =
+    record {
+      rise = λ i l.
+          ⊑-unless (T .span i .start) (T .span (i + 1) .start)
+          (any-each (λ i. ltZ (T .span (i + 1) .start) (T .span i .start)) (T .rows - 1) i h (omega arith));
     }
 
 -- A row starts no later than any row behind it.
