@@ -21,18 +21,19 @@ use Rattle.paper.specs.Folds.{Rows}
 use Rattle.paper.specs.Blocks.{begins, past}
 use Rattle.paper.specs.Embargo.{embargoed}
 use Rattle.paper.specs.Marks.{Rule, byWindow, byPair, meets, purged, Split, mark, markOf, marksOf}
+use Rattle.paper.specs.Checks.{badSpan}
 use Rattle.paper.specs.Layouts.{kfold, cpcv, walkForward, rolling}
 use Rattle.paper.specs.Overlaps.{overlapCount}
 use Rattle.paper.proofs.BlocksMeaning.{past-le, past-test, block-some}
 use Rattle.paper.proofs.MarksMeaning.{mark-says}
-use Rattle.laws.specs.Windows.{Ordered, Good, ordered-le, window-begins, window-ends, window-from, window-to}
+use Rattle.laws.specs.Windows.{Ordered, Good, good-table, falls, ordered-table, ordered-le, window-begins, window-ends, window-from, window-to}
 use Rattle.laws.specs.SpanLaws.{meets-held}
 use Rattle.laws.specs.Unordered.{windowAt, purged-pair-first, purged-pair-last}
 use Rattle.laws.specs.RowLists.{rowsOf, overlapCount-none}
 
 -- ---- any table
 
--- Row i trains.
+-- Row i trains: it has mark 0.
 abbrev pub trains : Rule → Table → Split → Rows
 trains r T s i = eqb (markOf r T s i) 0
 
@@ -56,7 +57,7 @@ unfolding markOf
 trained-pair T s i =
     mark-says (s .test i) (s .unused i) (meets T (s .test) i) (embargoed T (s .test) (s .width) i) .train
 
--- Free rows leave no overlap.
+-- A rule that trains the free rows leaves no overlap.
 free-overlaps :
     (r : Rule) (T : Table) (s : Split) → ((i : ℕ) → i < T .rows → trains r T s i ≡ free T s i) →
     leftOverlaps r T s ≡ 0
@@ -67,6 +68,7 @@ free-overlaps r T s same =
     let y = both {a = not (s .unused i)} x .1 in
     not-true (meets T (s .test) i) (both {a = not (meets T (s .test) i)} y .0))
 
+-- So the pair rule leaves none, whatever the order of the rows.
 pub no-overlaps-pair : (T : Table) (s : Split) → leftOverlaps byPair T s ≡ 0
 no-overlaps-pair T s = free-overlaps byPair T s (λ i h. trained-pair T s i)
 
@@ -75,7 +77,7 @@ no-overlaps-pair T s = free-overlaps byPair T s (λ i h. trained-pair T s i)
 module _ {T : Table} (g : Good T) (o : Ordered T) where
   -- A block's window holds its rows.
   pair-window : (t : Rows) (i : ℕ) → purged byPair T t i ≡ true → purged byWindow T t i ≡ true
-  pair-window t = meets-held (record { from = λ b j g h l. window-from T b _ o j g h l; to = λ b j g h. window-to T b _ j g h })
+  pair-window t = meets-held (record { from = λ b j x y l. window-from T b _ o j x y l; to = λ b j x y. window-to T b _ j x y })
 
   -- A row before the block meets the row that gives the window its start, one behind it the row that gives it its end.
   window-pair : (t : Rows) (i : ℕ) → i < T .rows → t i ≡ false → purged byWindow T t i ≡ true → purged byPair T t i ≡ true
@@ -116,14 +118,16 @@ module _ {T : Table} (g : Good T) (o : Ordered T) where
   pub agreement : (s : Split) → marksOf byWindow T s ≡ marksOf byPair T s
   agreement s = tab-ext (markOf byWindow T s) (markOf byPair T s) (T .rows) (mark-same s)
 
+  -- By either rule the rows trained are exactly the free ones ..
   pub trained : (r : Rule) (s : Split) (i : ℕ) → i < T .rows → trains r T s i ≡ free T s i
   trained byPair s i l = trained-pair T s i
   trained byWindow s i l = ap (λ m. eqb m 0) (mark-same s i l) ∙ trained-pair T s i
 
+  -- .. and none of them overlaps a test row.
   pub no-overlaps : (r : Rule) (s : Split) → leftOverlaps r T s ≡ 0
   no-overlaps r s = free-overlaps r T s (trained r s)
 
-  -- ---- each layout is an instance
+  -- ---- all three together, and each layout as an instance
 
   pub agrees : (s : Split) → Agrees T s
   agrees s = record { same = agreement s; only-free = λ r. trained r s; apart = λ r. no-overlaps r s }
@@ -139,3 +143,7 @@ module _ {T : Table} (g : Good T) (o : Ordered T) where
 
   pub rolling-agrees : (a size step s : ℕ) → Agrees T (rolling a size step s)
   rolling-agrees a size step s = agrees (rolling a size step s)
+
+-- With the two premises as a call tests them: refusal 4 is not due, and no row starts earlier than the row before it.
+pub accepted-agrees : (T : Table) → badSpan T .due ≡ false → falls T ≡ false → (s : Split) → Agrees T s
+accepted-agrees T h k s = agrees (good-table T h) (ordered-table T k) s

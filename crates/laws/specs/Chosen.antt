@@ -71,6 +71,7 @@ folds-ranges {bs} {N} {n} w fs k h =
 
 -- ---- one range
 
+-- The rows b up to e.
 pub within-ranged : (b e : ℕ) → within b e ≡ ranged (λ j. b) (λ j. e) 1
 unfolding any
 within-ranged b e = fun-ext (λ i. refl)

@@ -21,7 +21,7 @@ use Rattle.paper.proofs.BlocksMeaning.{begins-test, begins-after, begins-is, pa
 abbrev pub ranged : (ℕ → ℕ) → (ℕ → ℕ) → ℕ → Rows
 ranged F G k i = any (λ j. within (F j) (G j) i) k
 
--- k ranges of n rows.
+-- What is known of k ranges of n rows: none is empty, each begins where the one before ends or later, all lie in the rows.
 pub record Ranges (F G : ℕ → ℕ) (k n : ℕ) : Type 0 where
   pub some : (j : ℕ) → j < k → F j < G j
   pub rise : (j : ℕ) → j + 1 < k → G j ≤ F (j + 1)
@@ -35,6 +35,10 @@ touches F G j = eqb (G j) (F (j + 1))
 abbrev pub heads : (ℕ → ℕ) → (ℕ → ℕ) → ℕ → Bool
 heads F G zero = true
 heads F G (suc j) = not (touches F G j)
+
+-- The row past the block that goes through range j.
+abbrev pub pastRange : ℕ → (ℕ → ℕ) → (ℕ → ℕ) → ℕ → ℕ → ℕ
+pastRange n F G k j = past n (ranged F G k) (F j)
 
 -- Only the first k places of F and G matter, as of two arrays of which k places are filled.
 pub ranged-ext :
@@ -52,12 +56,13 @@ ranges-ext w x y =
       fits = λ j l. rw (y j l) (w .fits j l);
     }
 
--- As code asks it.
+-- Whether a range begins a block, as code asks it: the first does (`refl`), and each other one by this.
 pub heads-next : (F G : ℕ → ℕ) (j : ℕ) → 0 < j → heads F G j ≡ not (eqb (G (j - 1)) (F j))
 heads-next F G zero h = absurd (omega arith)
 heads-next F G (suc j) h = let z : suc j - 1 ≡ j = omega arith in rw (z, add-one)
 
 module _ {F G : ℕ → ℕ} {k n : ℕ} (w : Ranges F G k n) where
+  -- A row of a range is tested, and a row that is tested lies in one.
   pub ranged-in : (j i : ℕ) → j < k → F j ≤ i → i < G j → ranged F G k i ≡ true
   ranged-in j i h a b = any-here (λ m. within (F m) (G m) i) k j h (within-in (F j) (G j) i a b)
 
@@ -102,24 +107,24 @@ module _ {F G : ℕ → ℕ} {k n : ℕ} (w : Ranges F G k n) where
 
   -- ---- where a block ends
 
-  -- The row past the block that goes through range j: the next range's, if that touches; else the end of range j.
-  pub past-on : (j : ℕ) → j + 1 < k → touches F G j ≡ true → past n (ranged F G k) (F j) ≡ past n (ranged F G k) (F (j + 1))
+  -- Where the next range touches, the block goes on through it; else it ends with range j.
+  pub past-on : (j : ℕ) → j + 1 < k → touches F G j ≡ true → pastRange n F G k j ≡ pastRange n F G k (j + 1)
   past-on j h e =
-      past-is n (ranged F G k) (F j) (past n (ranged F G k) (F (j + 1)))
+      past-is n (ranged F G k) (F j) (pastRange n F G k (j + 1))
       (omega (arith, ge, w .rise j h, w .some j (omega arith))) (past-le n (ranged F G k) (F (j + 1)) le) (λ i a b. go i a b (decLt i (F (j + 1))))
       (past-stops n (ranged F G k) (F (j + 1)) le)
     where
       le : F (j + 1) ≤ n
       le = omega (arith, w .some (j + 1) h, w .fits (j + 1) h)
 
-      ge : F (j + 1) ≤ past n (ranged F G k) (F (j + 1))
+      ge : F (j + 1) ≤ pastRange n F G k (j + 1)
       ge = firstFrom-ge (λ i. not (ranged F G k i)) (F (j + 1)) (n - F (j + 1))
 
-      go : (i : ℕ) → F j ≤ i → i < past n (ranged F G k) (F (j + 1)) → Dec (i < F (j + 1)) → ranged F G k i ≡ true
+      go : (i : ℕ) → F j ≤ i → i < pastRange n F G k (j + 1) → Dec (i < F (j + 1)) → ranged F G k i ≡ true
       go i a b (yes l) = ranged-in j i (omega arith) a (omega (arith, eqb-true (G j) (F (j + 1)) e))
       go i a b (no l) = past-test n (ranged F G k) (F (j + 1)) i (omega arith) b
 
-  pub past-ends : (j : ℕ) → j < k → (j + 1 < k → touches F G j ≡ false) → past n (ranged F G k) (F j) ≡ G j
+  pub past-ends : (j : ℕ) → j < k → (j + 1 < k → touches F G j ≡ false) → pastRange n F G k j ≡ G j
   past-ends j h apart =
       past-is n (ranged F G k) (F j) (G j) (omega (arith, w .some j h)) (w .fits j h) (λ i. ranged-in j i h)
       (λ l.

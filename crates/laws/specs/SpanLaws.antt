@@ -1,4 +1,5 @@
--- Laws of overlap: the three facts of spans that the theorems on the two rules use. They are the only door to times.
+-- Laws of overlap. The first three are all that the theorems on the two rules know of times; the last carries the first of
+-- them from one test row to the blocks.
 use mathlib.Core.Path.{_≡_}
 use mathlib.Core.Bool.{true, _&&_}
 use Prim.Native.Nat.{ℕ, _≤_, _<_}

@@ -1,9 +1,11 @@
 -- The two rules where starts may decrease: as far as each purges what the other does, and that neither purges all of it.
 --
--- A row that overlaps a test row is purged by the window rule if the window of that test row's block begins no later than
--- the test row starts. A row that overlaps a block's window is purged by the pair rule if it starts no later than the row
--- of the block whose start is the window's, or no earlier than the row whose end is the window's.
--- Two tables of four rows show that neither rule's purged rows contain the other's.
+--   purged-window      A row that overlaps a test row is purged by the window rule too, if the window of that test row's
+--                      block (it begins where the block's first row starts) begins no later than the test row starts.
+--   purged-pair-first  A row that overlaps a block's window is purged by the pair rule too, if it starts no later than the
+--                      row that gives the window its start,
+--   purged-pair-last   or no earlier than the row that gives the window its end.
+--   neither-contains   Two tables of four rows show that neither rule's purged rows contain the other's.
 use mathlib.Core.Path.{_≡_, refl}
 use mathlib.Core.Bool.{true, false}
 use Prim.Native.Nat.{ℕ, _≤_, _<_}

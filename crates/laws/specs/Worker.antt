@@ -17,7 +17,7 @@ use Rattle.paper.specs.Blocks.{past, latest, window}
 use Rattle.paper.specs.Embargo.{embargoFrom, embargoed}
 use Rattle.paper.specs.Marks.{Rule, byWindow, byPair, purged, Split, mark, markOf}
 use Rattle.laws.specs.Hull.{hull, hull-misses}
-use Rattle.laws.specs.Ranges.{ranged, Ranges, heads, any-blocks, any-ranged}
+use Rattle.laws.specs.Ranges.{ranged, Ranges, heads, pastRange, any-blocks, any-ranged}
 
 -- The embargo of width rows from w on covers row i, asked without a sum that could overflow.
 abbrev pub covers : ℕ → ℕ → ℕ → Bool
@@ -31,10 +31,6 @@ covers-is w width i = go (decLt i w) (decLt (i - w) width)
     go (no g) (yes l) = rw (lt-ltb i (w + width) (omega arith), lt-ltb (i - w) width l)
     go (no g) (no l) = rw (le-ltb i (w + width) (omega arith), le-ltb (i - w) width (omega arith))
 
--- The row past the block that goes through range j.
-abbrev pub pastRange : ℕ → (ℕ → ℕ) → (ℕ → ℕ) → ℕ → ℕ → ℕ
-pastRange n F G k j = past n (ranged F G k) (F j)
-
 -- A split whose test rows are ranges.
 abbrev pub rangedSplit : (ℕ → ℕ) → (ℕ → ℕ) → ℕ → Rows → ℕ → Split
 rangedSplit F G k unused width = record { test = ranged F G k; unused = unused; width = width }
@@ -47,7 +43,7 @@ abbrev pub EmbargoesOf : Table → (ℕ → ℕ) → (ℕ → ℕ) → ℕ → (
 EmbargoesOf T F G k emb =
     (j : ℕ) → j < k → heads F G j ≡ true → emb j ≡ embargoFrom T (F j) (pastRange (T .rows) F G k j)
 
--- Windows of latest ends.
+-- Windows from latest ends.
 pub windows-of :
     (T : Table) (F G : ℕ → ℕ) (k : ℕ) (last : ℕ → ℤ) →
     ((j : ℕ) → j < k → heads F G j ≡ true → last j ≡ latest T (F j) (pastRange (T .rows) F G k j)) →
@@ -86,6 +82,7 @@ module _ (T : Table) {F G : ℕ → ℕ} {k : ℕ} (w : Ranges F G k (T .rows)) 
 
   -- ---- embargoed
 
+  -- A search over the rows where the embargoes begin.
   pub worker-embargoed :
       (emb : ℕ → ℕ) → EmbargoesOf T F G k emb → (width i : ℕ) →
       embargoed T (ranged F G k) width i ≡ any (λ j. heads F G j && covers (emb j) width i) k

@@ -1,4 +1,4 @@
--- Laws of `any`: what makes it true or false, and what it gives back.
+-- Laws of `any` and `anyFrom`: what makes them true or false, what they give back, and the turns of a search.
 use mathlib.Core.Path.{_≡_, refl, sym, _∙_}
 use mathlib.Core.Bool.{Bool, true, false, _||_, _&&_, or-true, or-comm, or-assoc}
 use Prim.Native.Nat.{ℕ, zero, suc, _+_, _-_, _≤_, _<_}
@@ -10,6 +10,11 @@ use Rattle.lists.specs.Base.{any, anyFrom}
 -- True and false are two.
 pub never : {X : Type 0} {b : Bool} → b ≡ true → b ≡ false → X
 never {X} {b} t f = absurd (let y : _≡_ {A = ℕ} 0 1 = let w : _≡_ {A = Bool} true false = sym t ∙ f in cc in omega arith)
+
+-- A test that passes only where another does fails with it.
+pub if-not : {a b : Bool} → (a ≡ true → b ≡ true) → b ≡ false → a ≡ false
+if-not {a = true} f h = never (f refl) h
+if-not {a = false} f h = refl
 
 -- The turns of a search: nothing looked at, one number more, one more that fails. A hit is `any-here`.
 pub any-zero : (p : ℕ → Bool) → any p 0 ≡ false
@@ -62,11 +67,7 @@ any-none p (suc n) h = rw (any-none p n (λ i l. h i (omega arith)), h n (omega 
 
 -- None passes, where it is false.
 pub any-each : (p : ℕ → Bool) (n i : ℕ) → any p n ≡ false → i < n → p i ≡ false
-any-each p n i f l = go (p i) refl
-  where
-    go : (b : Bool) → p i ≡ b → p i ≡ false
-    go true e = never (any-here p n i l e) f
-    go false e = e
+any-each p n i f l = if-not (any-here p n i l) f
 
 pub any-ext : (p q : ℕ → Bool) (n : ℕ) → ((i : ℕ) → i < n → p i ≡ q i) → any p n ≡ any q n
 unfolding any
@@ -86,11 +87,6 @@ both-ways {a = true} {b = true} f g = refl
 both-ways {a = true} {b = false} f g = sym (f refl)
 both-ways {a = false} {b = true} f g = g refl
 both-ways {a = false} {b = false} f g = refl
-
--- A test that passes only where another does fails with it.
-pub if-not : {a b : Bool} → (a ≡ true → b ≡ true) → b ≡ false → a ≡ false
-if-not {a = true} f h = never (f refl) h
-if-not {a = false} f h = refl
 
 -- Behind `a &&` only what holds under a matters.
 pub and-ext : (a : Bool) {b c : Bool} → (a ≡ true → b ≡ c) → a && b ≡ a && c
