@@ -16,7 +16,7 @@ pub record Allowed {A R X : Type 0} (said : A → Outcome R) (out : Outcome R) (
   pub says : said a ≡ out
   pub leaves : x ≡ beside
 
--- So it is for a call with a chain of checks, a result, and a list that comes in as old and is new once written.
+-- A call has a chain of checks, a result, and a list that comes in as old and is new once it is written.
 abbrev pub AllowedCall : {A R B : Type 0} → (A → Outcome R) → List Check → R → List B → List B → A → List B → Type 0
 AllowedCall said checks result old new a l = Allowed said (checked checks result) (lent (checked checks result) old new) a l
 
@@ -30,6 +30,12 @@ pub record Unique {A R : Type 0} (said : A → Outcome R) : Type 1 where
 pub unique : {A R : Type 0} (said : A → Outcome R) → ((a b : A) → said a ≡ said b → a ≡ b) → Unique said
 unique said one =
     record { same = λ {a} {b} p q. (one a b (p .says ∙ sym (q .says)), p .leaves ∙ sym (q .leaves)) }
+
+-- The same said of a call.
+pub call-unique :
+    {A R B : Type 0} (said : A → Outcome R) → Unique said → (checks : List Check) (result : R) (old new : List B) (a b : A) (l m : List B) →
+    AllowedCall said checks result old new a l → AllowedCall said checks result old new b m → (a ≡ b) × (l ≡ m)
+call-unique said u checks result old new a b l m p q = u .same p q
 
 -- ---- each kind of answer
 
