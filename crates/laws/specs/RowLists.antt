@@ -1,12 +1,13 @@
 -- The rows with a property as a list, in row order: what the overlap count is asked about.
-use mathlib.Core.Path.{_≡_, refl}
+use mathlib.Core.Path.{_≡_, refl, ap, _∙_}
 use mathlib.Core.Bool.{Bool, true, false, _&&_}
 use mathlib.Core.List.{List, [], _∷_, _++_}
-use Prim.Native.Nat.{ℕ, zero, suc, _<_}
+use Prim.Native.Nat.{ℕ, zero, suc, _+_, _<_}
 use native.Mathlib.Omega.{arith}
 use native.Mathlib.Decide.{decLt}
 use lib.ListN.{length, getD, length-append, List·getD-append}
 use lib.Seq.{getD-at}
+use Rattle.lists.specs.Base.{bit, count}
 use Rattle.lists.specs.AnyLaws.{any-none, any-each}
 use Rattle.lists.specs.CountLaws.{count-none}
 use Rattle.paper.specs.Spans.{Table, overlaps}
@@ -23,6 +24,35 @@ only false n = []
 unfoldable pub rowsOf : Rows → ℕ → List ℕ
 rowsOf p zero = []
 rowsOf p (suc n) = rowsOf p n ++ only (p n) n
+
+-- None is missing, and they stand in row order: row i has as many before it in the list as there are such rows before it.
+pub rowsOf-length : (p : Rows) (n : ℕ) → length (rowsOf p n) ≡ count p n
+unfolding rowsOf count
+rowsOf-length p zero = refl
+rowsOf-length p (suc n) = rw (length-append, rowsOf-length p n) (ap (λ x. count p n + x) (go (p n)))
+  where
+    go : (b : Bool) → length (only b n) ≡ bit b
+    go true = refl
+    go false = refl
+
+pub rowsOf-place :
+    (p : Rows) (n i : ℕ) → i < n → p i ≡ true → (count p i < length (rowsOf p n)) × (getD (rowsOf p n) (count p i) 0 ≡ i)
+unfolding rowsOf
+rowsOf-place p zero i h e = absurd (omega arith)
+rowsOf-place p (suc n) i h e = go (decLt i n) (rowsOf-place p n i)
+  where
+    go :
+        Dec (i < n) →
+        (i < n → p i ≡ true → (count p i < length (rowsOf p n)) × (getD (rowsOf p n) (count p i) 0 ≡ i)) →
+        (count p i < length (rowsOf p n ++ only (p n) n)) × (getD (rowsOf p n ++ only (p n) n) (count p i) 0 ≡ i)
+    go (yes l) ih =
+        let r = ih l e in
+        (rw length-append (omega (arith, r .0)), List·getD-append (rowsOf p n) (only (p n) n) 0 (count p i) (r .0) ∙ r .1)
+    go (no g) ih =
+        let z : n ≡ i = omega arith in
+        let y : p n ≡ true = rw z e in
+        let x : length (rowsOf p n) ≡ count p i = rowsOf-length p n ∙ ap (count p) z in
+        rw y (rw length-append (omega arith), getD-at (rowsOf p n) n [] 0 (count p i) x ∙ z)
 
 -- Each entry is such a row.
 pub rowsOf-each :
