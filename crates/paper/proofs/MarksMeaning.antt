@@ -63,7 +63,7 @@ six-counts f zero h = refl
 six-counts f (suc n) h = omega (arith, six-counts f n h, h n)
 
 -- Two marks are tallied one by one or together.
-two-tallies : (v w : ℕ) (f : ℕ → ℕ) (n : ℕ) → (v ≡ w → ⊥) → tally v (tab f n) + tally w (tab f n) ≡ count (λ i. eqb (f i) v || eqb (f i) w) n
+pub two-tallies : (v w : ℕ) (f : ℕ → ℕ) (n : ℕ) → (v ≡ w → ⊥) → tally v (tab f n) + tally w (tab f n) ≡ count (λ i. eqb (f i) v || eqb (f i) w) n
 two-tallies v w f n h =
     rw (tally-tab v f n, tally-tab w f n)
     (sym (count-or (λ i. eqb (f i) v) (λ i. eqb (f i) w) n (λ i l e. ne-eqb (f i) w (λ z. h (sym (eqb-true (f i) v e) ∙ z)))))
