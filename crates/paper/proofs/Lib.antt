@@ -9,6 +9,7 @@ pub mod Listing
 pub mod ListingMeaning
 pub mod MarksMeaning
 pub mod PathsMeaning
+pub mod PlacesMeaning
 pub mod Rows
 pub mod SetsExamples
 pub mod Times
