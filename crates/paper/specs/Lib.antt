@@ -10,6 +10,7 @@ pub mod Layouts
 pub mod Marks
 pub mod Overlaps
 pub mod Paths
+pub mod Places
 pub mod Refusals
 pub mod Sets
 pub mod Spans
