@@ -23,9 +23,10 @@ use Rattle.paper.specs.Checks.{
   splitChecks,
   setChecks,
   pathChecks,
+  wholePathChecks,
+  wrongLength,
 }
 use Rattle.paper.proofs.ChecksMeaning.{clear}
-use Rattle.checks.specs.Said.{pathLength, wholeChecks}
 use Rattle.checks.proofs.ChainLaws.{clear-append, clear-cons}
 
 -- N and k of combinations that are not refused.
@@ -72,9 +73,9 @@ path-ready n k p g h =
     let s = such (paths n k) p (noSuch n g ∷ []) (c .1) in
     (numbers-ready n k (c .0), s .0, such n g [] (s .1) .0)
 
-pub whole-ready : (n k p long : ℕ) → clear (wholeChecks n k p long) ≡ true → Ready n k × (p < paths n k) × (long ≡ n)
+pub whole-ready : (n k p long : ℕ) → clear (wholePathChecks n k p long) ≡ true → Ready n k × (p < paths n k) × (long ≡ n)
 whole-ready n k p long h =
-    let a = clear-cons (fewFolds n) (pathLength long n ∷ combinationChecks n k ++ noSuch (paths n k) p ∷ []) h in
-    let b = clear-cons (pathLength long n) (combinationChecks n k ++ noSuch (paths n k) p ∷ []) (a .1) in
+    let a = clear-cons (fewFolds n) (wrongLength long n ∷ combinationChecks n k ++ noSuch (paths n k) p ∷ []) h in
+    let b = clear-cons (wrongLength long n) (combinationChecks n k ++ noSuch (paths n k) p ∷ []) (a .1) in
     let c = clear-append (combinationChecks n k) (noSuch (paths n k) p ∷ []) (b .1) in
     (combinations-ready n k (c .0), such (paths n k) p [] (c .1) .0, eqb-true long n (not-false (eqb long n) (b .0)))

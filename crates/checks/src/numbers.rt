@@ -10,10 +10,10 @@ ghost use mathlib.Core.List.{[], _∷_};
 ghost use Prim.Native.Nat.{_≤_, _<_};
 ghost use lib.Dec.{eqb, leb};
 ghost use Rattle.paper.specs.Handed.{listOf};
-ghost use Rattle.paper.specs.Checks.{checked, fewFolds, combinationChecks, noSuch, noSplit, numbersChecks, splitChecks, setChecks, pathChecks};
+ghost use Rattle.paper.specs.Checks.{checked, fewFolds, combinationChecks, noSuch, noSplit, numbersChecks, splitChecks, setChecks, pathChecks, wholePathChecks, wrongLength};
 ghost use Rattle.paper.specs.Sets.{choose};
 ghost use Rattle.paper.specs.Paths.{paths};
-ghost use Rattle.checks.specs.Said.{saidChecked, _then_, pathLength, wholeChecks};
+ghost use Rattle.checks.specs.Said.{saidChecked, _then_};
 ghost use Rattle.checks.specs.declared.checked.Checked.{Checked};
 use crate::checked::Checked;
 use paper::FoldSet;
@@ -29,7 +29,7 @@ pub fn few_folds(n: usize) -> Checked
 
 // 5: a lent list that is not as long as it should be.
 pub fn list_length(found: Checked, long: usize, due: usize) -> Checked
-    ensures { λ r. ⌜ saidChecked r ≡ (found then pathLength long due ∷ []) ⌝ }
+    ensures { λ r. ⌜ saidChecked r ≡ (found then wrongLength long due ∷ []) ⌝ }
 {
     found.refuse_if(long != due, Refusal::WrongLength)
 }
@@ -131,7 +131,7 @@ pub fn path(n: usize, k: usize, p: u64, g: usize) -> Checked
 
 // All checks of the whole path, `long` being the length of the lent list.
 pub fn whole_path(n: usize, k: usize, p: u64, long: usize) -> Checked
-    ensures { λ r. ⌜ saidChecked r ≡ checked (wholeChecks n k p long) tt ⌝ }
+    ensures { λ r. ⌜ saidChecked r ≡ checked (wholePathChecks n k p long) tt ⌝ }
 {
     path_number(
         combinations(list_length(few_folds(n), long, n), n, k),

@@ -1,10 +1,9 @@
 use borrow.Author.Needs.{needs}
 use mathlib.Core.Path.{_∙_}
 use mathlib.Core.List.{[], _∷_, _++_}
-use Rattle.paper.specs.Checks.{fewFolds, combinationChecks, noSuch}
+use Rattle.paper.specs.Checks.{fewFolds, combinationChecks, noSuch, wrongLength}
 use native.Mathlib.Omega.{arith}
 use Rattle.paper.specs.Paths.{paths}
-use Rattle.checks.specs.Said.{pathLength}
 use Rattle.checks.specs.declared.checked.Checked.{Checked}
 use Rattle.checks.proofs.ChainLaws.{then-append, then-fine}
 use Rattle.checks.proofs.ReadyLaws.{combinations-ready}
@@ -26,8 +25,8 @@ returns c =
     let last = noSuch (paths (a .n) (a .k)) (a .p) ∷ [] in
     c .path-number .ensures
     ∙ then-append (l .result) (b .result) (combinationChecks (a .n) (a .k)) last (b .ensures)
-    ∙ then-append (f .result) (l .result) (pathLength (a .long) (a .n) ∷ []) (combinationChecks (a .n) (a .k) ++ last) (l .ensures)
-    ∙ then-append Checked.Fine (f .result) (fewFolds (a .n) ∷ []) (pathLength (a .long) (a .n) ∷ combinationChecks (a .n) (a .k) ++ last) (f .ensures)
+    ∙ then-append (f .result) (l .result) (wrongLength (a .long) (a .n) ∷ []) (combinationChecks (a .n) (a .k) ++ last) (l .ensures)
+    ∙ then-append Checked.Fine (f .result) (fewFolds (a .n) ∷ []) (wrongLength (a .long) (a .n) ∷ combinationChecks (a .n) (a .k) ++ last) (f .ensures)
 
 pub whole-path-spec : {M : Type 1} → statement M
 whole-path-spec =
