@@ -34,7 +34,8 @@ pub fn list_length(found: Checked, long: usize, due: usize) -> Checked
     found.refuse_if(long != due, Refusal::WrongLength)
 }
 
-fn bad_test_folds(n: usize, k: usize) -> bool
+// Does k lie outside 1..n, n not counted? The test of 6, and of 7.
+pub fn outside(n: usize, k: usize) -> bool
     ensures { λ r. ⌜ r ≡ (eqb k 0 || leb n k) ⌝ }
 {
     if k == 0 { true } else { n <= k }
@@ -47,7 +48,7 @@ pub fn combinations(found: Checked, n: usize, k: usize) -> Checked
     match found {
         Checked::Bad(r) => Checked::Bad(r),
         Checked::Fine => {
-            if bad_test_folds(n, k) {
+            if outside(n, k) {
                 Checked::Bad(Refusal::InvalidTestSplits)
             } else if Settings::MAX_CPCV_FOLDS < n {
                 Checked::Bad(Refusal::TooManyFolds)

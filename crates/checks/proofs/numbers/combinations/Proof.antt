@@ -9,7 +9,7 @@ use Rattle.checks.proofs.numbers.combinations.Tie as tie
 too-many-requires : tie.Need-too-many-requires
 too-many-requires c κs =
     let s = c .before .before .before .before .before in
-    let t = test-folds (s .args .n) (s .args .k) (sym (c .before .before .bad-test-folds .ensures) ∙ c .before .if1 .left) in
+    let t = test-folds (s .args .n) (s .args .k) (sym (c .before .before .outside .ensures) ∙ c .before .if1 .left) in
     (t .0, t .1, c .if2 .left)
 
 returns : tie.Need-returns
@@ -17,13 +17,13 @@ returns c = rw (c .before .found .given .1)
 
 returns-2 : tie.Need-returns-2
 unfolding checked
-returns-2 c = rw (c .before .before .enum-told .given .1, ← c .before .bad-test-folds .ensures, c .if1 .taken)
+returns-2 c = rw (c .before .before .enum-told .given .1, ← c .before .outside .ensures, c .if1 .taken)
 
 returns-3 : tie.Need-returns-3
 unfolding checked
 returns-3 c =
     let b = c .before .before in
-    rw (b .before .enum-told .given .1, ← b .bad-test-folds .ensures, c .before .if1 .left, lt-ltb _ _ (c .if2 .taken))
+    rw (b .before .enum-told .given .1, ← b .outside .ensures, c .before .if1 .left, lt-ltb _ _ (c .if2 .taken))
 
 returns-4 : tie.Need-returns-4
 unfolding checked
@@ -32,7 +32,7 @@ returns-4 c =
     c .refuse-if .ensures
     ∙ rw (
       b .before .enum-told .given .1,
-      ← b .bad-test-folds .ensures,
+      ← b .outside .ensures,
       c .before .before .before .if1 .left,
       le-ltb _ _ (c .before .before .if2 .left),
       c .before .too-many .ensures,
