@@ -12,6 +12,7 @@ pub mod Overlaps
 pub mod Paths
 pub mod Places
 pub mod Refusals
+pub mod RowCalls
 pub mod Sets
 pub mod Spans
 pub mod Width
