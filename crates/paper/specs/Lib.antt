@@ -14,4 +14,5 @@ pub mod Places
 pub mod Refusals
 pub mod Sets
 pub mod Spans
+pub mod SplitCalls
 pub mod Width
