@@ -1,0 +1,2 @@
+-- One theorem of document 01 a file.
+pub mod Listing
