@@ -1,0 +1,61 @@
+// Walks all splits of several N and k from each to the next, against their numbers and back, and shows the edges of what is
+// accepted at their first, a middle and their last number. Every line goes by the public calls; what the lines must say is
+// in `stdout`.
+mod lines;
+mod walk;
+
+fn walks() {
+    walk::show_walk(2, 1);
+    walk::show_walk(4, 2);
+    walk::show_walk(5, 4);
+    walk::show_walk(6, 3);
+    walk::show_walk(10, 5);
+    walk::show_walk(13, 2);
+    walk::show_walk(11, 5);
+    walk::show_walk(64, 1);
+}
+
+// The first, a middle and the last split and path of the largest N and k.
+fn edges() {
+    lines::show_count(62, 31);
+    lines::show_split(62, 31, 0);
+    lines::show_split(62, 31, 232714176627630544);
+    lines::show_split(62, 31, 465428353255261087);
+    lines::show_split(62, 31, 465428353255261088);
+    lines::show_path(62, 31, 0);
+    lines::show_path(62, 31, 232714176627630543);
+    lines::show_path(62, 31, 232714176627630544);
+    lines::show_count(63, 28);
+    lines::show_split(63, 28, 0);
+    lines::show_split(63, 28, 400000000000000000);
+    lines::show_split(63, 28, 629308289804197436);
+    lines::show_path(63, 28, 279692573246309971);
+    lines::show_count(64, 26);
+    lines::show_split(64, 26, 0);
+    lines::show_split(64, 26, 500000000000000000);
+    lines::show_split(64, 26, 601557853127198687);
+    lines::show_path(64, 26, 244382877832924466);
+}
+
+fn refusals() {
+    lines::show_count(63, 29);
+    lines::show_count(64, 27);
+    lines::show_count(65, 2);
+    lines::show_count(65, 0);
+    lines::show_count(1, 1);
+    lines::show_count(0, 5);
+    lines::show_count(8, 8);
+    lines::show_split(63, 29, 0);
+    lines::show_path(65, 2, 0);
+}
+
+fn main() {
+    walks();
+    lines::show_count(4, 2);
+    lines::show_path(4, 2, 0);
+    lines::show_path(4, 2, 1);
+    lines::show_path(4, 2, 2);
+    lines::show_path(4, 2, 3);
+    edges();
+    refusals();
+}
