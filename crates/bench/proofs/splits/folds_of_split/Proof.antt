@@ -6,6 +6,7 @@ use Rattle.checks.specs.declared.checked.Checked.{Checked}
 use Rattle.checks.proofs.ChainLaws.{then-fine, fine-gives, bad-gives}
 use Rattle.checks.proofs.ReadyLaws.{split-ready}
 use Prim.{tt}
+use native.Mathlib.Omega.{arith}
 use Rattle.bench.proofs.splits.folds_of_split.Statement.{statement}
 use Rattle.bench.proofs.splits.folds_of_split.Tie as tie
 
@@ -15,7 +16,7 @@ set-at-requires c κs =
     let a = k .before .args in
     let r = split-ready (a .folds) (a .k) (a .split .0)
     (then-fine Checked.Fine (k .split .result) (splitChecks (a .folds) (a .k) (a .split .0)) (k .split .ensures) (c .enum-told .given .1)) in
-    (r .0 .small, r .1)
+    (omega arith, omega arith)
 
 returns : tie.Need-returns
 returns c =

@@ -5,6 +5,7 @@ use Rattle.paper.specs.Checks.{pathChecks}
 use Rattle.checks.specs.declared.checked.Checked.{Checked}
 use Rattle.checks.proofs.ChainLaws.{then-fine, fine-gives, bad-gives}
 use Rattle.checks.proofs.ReadyLaws.{path-ready}
+use native.Mathlib.Omega.{arith}
 use Rattle.paper.specs.Paths.{splitOnPath}
 use Rattle.bench.proofs.splits.split_on_path.Statement.{statement}
 use Rattle.bench.proofs.splits.split_on_path.Tie as tie
@@ -15,7 +16,7 @@ split-on-path-requires c κs =
     let a = k .before .args in
     let r = path-ready (a .folds) (a .k) (a .path .0) (a .fold .0)
     (then-fine Checked.Fine (k .path .result) (pathChecks (a .folds) (a .k) (a .path .0) (a .fold .0)) (k .path .ensures) (c .enum-told .given .1)) in
-    (r .0 .small, r .0 .some, r .1, r .2)
+    (omega arith, omega arith, r .1, omega arith)
 
 returns : tie.Need-returns
 returns c =
