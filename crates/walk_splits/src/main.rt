@@ -1,6 +1,7 @@
 // Walks all splits of several N and k from each to the next, against their numbers and back, and shows the edges of what is
-// accepted at their first, a middle and their last number. Every line goes by the public calls; what the lines must say is
-// in `stdout`.
+// accepted at their first, a middle and their last number. Every line goes by the public calls. What the lines must say
+// stands in `stdout` and was worked out another way: the p-th split that holds g is g put into the p-th set of k - 1 of
+// the other folds.
 mod lines;
 mod walk;
 
