@@ -5,11 +5,12 @@ use mathlib.Core.List.{List, [], _∷_, _++_, append-nil}
 use Prim.{Unit, tt}
 use Prim.Native.Nat.{ℕ}
 use native.Mathlib.Omega.{arith}
+use lib.Dec.{eqb}
 use borrow.Author.Tests.{not-true}
 use Rattle.lists.specs.AnyLaws.{both, never}
 use Rattle.paper.specs.declared.refusal.Refusal.{Refusal}
 use Rattle.paper.specs.Refusals.{Outcome, Carried, done, refused, saidRefusal}
-use Rattle.paper.specs.Checks.{Check, checked}
+use Rattle.paper.specs.Checks.{Check, checked, lent}
 use Rattle.paper.proofs.ChecksMeaning.{clear, checked-clear}
 use Rattle.checks.specs.declared.checked.Checked.{Checked}
 use Rattle.checks.specs.Said.{saidChecked, _then_}
@@ -87,3 +88,34 @@ fine-gives cs h e a = checked-clear cs a (done-clear cs tt tt (sym (rw e at h)))
 pub bad-gives : {A : Type 0} {r : Checked} {q : Refusal} (cs : List Check) → saidChecked r ≡ checked cs tt → r ≡ Checked.Bad q
     → (a : A) → checked cs a ≡ saidRefusal q
 bad-gives cs h e a = rw append-nil at (append-refused cs [] tt a (sym (rw e at h)))
+
+-- ---- lent lists
+
+-- Is 17, whose refusal leaves marks written, not in the chain?
+abbrev pub without17 : List Check → Bool
+without17 [] = true
+without17 (c ∷ cs) = not (eqb (c .number) 17) && without17 cs
+
+lent-kept : {A B : Type 0} (cs : List Check) (a : A) (old new : List B) → without17 cs ≡ true → {n : ℕ} {q : Carried}
+    → checked cs a ≡ refused n q → lent (checked cs a) old new ≡ old
+unfolding checked
+lent-kept [] a old new t e = apart e
+lent-kept (c ∷ cs) a old new t {n} {q} e =
+    let b = both {a = not (eqb (c .number) 17)} t in
+    go (c .due) e (not-true (eqb (c .number) 17) (b .0)) (lent-kept cs a old new (b .1))
+  where
+    go : (d : Bool) → cond d (refused (c .number) (c .carried)) (checked cs a) ≡ refused n q → eqb (c .number) 17 ≡ false
+        → (checked cs a ≡ refused n q → lent (checked cs a) old new ≡ old)
+        → lent (cond d (refused (c .number) (c .carried)) (checked cs a)) old new ≡ old
+    go true e other more = rw other
+    go false e other more = more e
+
+-- Then a refusal leaves the lent list as it was ..
+pub lent-bad : {A B : Type 0} {r : Checked} {q : Refusal} (cs : List Check) → without17 cs ≡ true → saidChecked r ≡ checked cs tt
+    → r ≡ Checked.Bad q → (a : A) (old new : List B) → old ≡ lent (checked cs a) old new
+lent-bad cs t h e a old new = sym (lent-kept cs a old new t (bad-gives cs h e a))
+
+-- .. and a result leaves the new one.
+pub lent-fine : {A B : Type 0} {r : Checked} (cs : List Check) → saidChecked r ≡ checked cs tt → r ≡ Checked.Fine
+    → (a : A) (old new : List B) → new ≡ lent (checked cs a) old new
+lent-fine cs h e a old new = rw (fine-gives cs h e a)

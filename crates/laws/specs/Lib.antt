@@ -3,6 +3,7 @@ pub mod Agreement
 pub mod Below
 pub mod Chosen
 pub mod Hull
+pub mod Listing
 pub mod MarkCounts
 pub mod Ranges
 pub mod RowLists

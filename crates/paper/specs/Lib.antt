@@ -15,4 +15,5 @@ pub mod Refusals
 pub mod RowCalls
 pub mod Sets
 pub mod Spans
+pub mod SplitCalls
 pub mod Width

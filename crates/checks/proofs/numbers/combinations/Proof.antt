@@ -1,4 +1,5 @@
 use borrow.Author.Needs.{needs}
+use native.Mathlib.Omega.{arith}
 use borrow.Author.Tests.{lt-ltb, le-ltb}
 use mathlib.Core.Path.{sym, _∙_}
 use Rattle.paper.specs.Checks.{checked}
@@ -10,7 +11,7 @@ too-many-requires : tie.Need-too-many-requires
 too-many-requires c κs =
     let s = c .before .before .before .before .before in
     let t = test-folds (s .args .n) (s .args .k) (sym (c .before .before .outside .ensures) ∙ c .before .if1 .left) in
-    (t .0, t .1, c .if2 .left)
+    (t .0, t .1, omega arith)
 
 returns : tie.Need-returns
 returns c = rw (c .before .found .given .1)
@@ -23,18 +24,20 @@ returns-3 : tie.Need-returns-3
 unfolding checked
 returns-3 c =
     let b = c .before .before in
-    rw (b .before .enum-told .given .1, ← b .outside .ensures, c .before .if1 .left, lt-ltb _ _ (c .if2 .taken))
+    let n = b .before .before .before .args .n in
+    rw (b .before .enum-told .given .1, ← b .outside .ensures, c .before .if1 .left, lt-ltb 64 n (omega arith))
 
 returns-4 : tie.Need-returns-4
 unfolding checked
 returns-4 c =
     let b = c .before .before .before .before in
+    let n = b .before .before .before .args .n in
     c .refuse-if .ensures
     ∙ rw (
       b .before .enum-told .given .1,
       ← b .outside .ensures,
       c .before .before .before .if1 .left,
-      le-ltb _ _ (c .before .before .if2 .left),
+      le-ltb 64 n (omega arith),
       c .before .too-many .ensures,
     )
 

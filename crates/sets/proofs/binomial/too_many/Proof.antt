@@ -1,5 +1,5 @@
 -- 2^64 - 1 over j is below the count just where 2^64 - 1 is below the product.
-use mathlib.Core.Path.{_≡_}
+use mathlib.Core.Path.{_≡_, ap, _∙_}
 use mathlib.Core.Logic.{_↔_}
 use Prim.Native.Nat.{ℕ, _*_, _/_, _<_}
 use native.Mathlib.Nat.{div-lt-iff-lt-mul}
@@ -25,9 +25,12 @@ over m j c h = go (decLt m (c * j)) (decLt (m / j) c)
 
 returns : tie.Need-returns
 returns c =
+    let n = c .before .before .args .n in
     let l = c .before .least .result in
     let some : 0 < l = omega arith in
-    rw (c .n-choose-k .ensures, over 18446744073709551615 l (choose (c .before .before .args .n) l) some, c .before .least .ensures)
+    ap (ltb (18446744073709551615 / l)) (c .n-choose-k .ensures)
+    ∙ over 18446744073709551615 l (choose n l) some
+    ∙ ap (λ j. ltb 18446744073709551615 (choose n j * j)) (c .before .least .ensures)
 
 pub too-many-spec : {M : Type 1} → statement M
 too-many-spec =
