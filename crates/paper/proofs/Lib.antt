@@ -6,6 +6,7 @@ pub mod Domains
 pub mod EmbargoMeaning
 pub mod Examples
 pub mod FoldsMeaning
+pub mod HandedMeaning
 pub mod JoiningMeaning
 pub mod LayoutsMeaning
 pub mod Listing
@@ -17,6 +18,7 @@ pub mod RefusalsMeaning
 pub mod Rows
 pub mod SetsExamples
 pub mod SpansMeaning
+pub mod TestedMeaning
 pub mod Times
 pub mod WidthExamples
 pub mod WidthMeaning

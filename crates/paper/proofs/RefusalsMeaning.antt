@@ -1,20 +1,20 @@
 -- When each refusal is due (01, "Refusal numbers"), as facts on numbers: each check passes exactly when its fact holds, and a
--- refusal that carries a place carries the first that fails.
+-- refusal that carries a place carries the first that fails. The last section has what each carries.
 use mathlib.Core.Path.{_≡_, refl, sym, ap, _∙_}
 use mathlib.Core.Bool.{Bool, true, false, not, _||_, _&&_, Bool·not-not}
-use mathlib.Core.List.{List, _++_}
+use mathlib.Core.List.{List, [], _∷_, _++_}
 use Prim.Native.Nat.{ℕ, _*_, _≤_, _<_}
 use native.Mathlib.Omega.{arith}
 use lib.Dec.{leb, ltb, eqb}
-use lib.IntN.{ℤ}
+use lib.IntN.{ℤ, pos}
 use lib.ListN.{length, getD}
-use lib.Ieee.{Float, nan}
+use lib.Ieee.{Float, nan, inf, fin}
 use borrow.Author.Tests.{ltb-true, ltb-false, leb-false, eqb-true, eqb-false, le-ltb, lt-leb, lt-ltb, eq-eqb, ne-eqb, not-true, not-false}
-use Rattle.lists.specs.Base.{first, tally}
+use Rattle.lists.specs.Base.{firstFrom, first, tally}
 use Rattle.lists.specs.AnyLaws.{never}
 use Rattle.lists.specs.FirstLaws.{first-le, first-is, first-before, firstFrom-none}
-use Rattle.paper.specs.Refusals.{one}
-use Rattle.paper.specs.Spans.{Table, good}
+use Rattle.paper.specs.Refusals.{nothing, one, two, double}
+use Rattle.paper.specs.Spans.{Table, table, reaches, good}
 use Rattle.paper.specs.Width.{isFraction}
 use Rattle.paper.specs.Sets.{tooMany, isSplit}
 use Rattle.paper.specs.Paths.{paths}
@@ -205,3 +205,26 @@ outOfRange-passes n train test =
       shows = λ h i l. leb-false n (getD (train ++ test) i 0) (w .shows h i l);
       holds = λ all. w .holds (λ i l. lt-leb n (getD (train ++ test) i 0) (all i l));
     }
+
+-- ---- what is carried
+
+-- 2: N and n, or N and 0; 3: the fraction. All that are made by `bare` carry nothing.
+pub record Carries (number N n : ℕ) (x : Float) (due : Bool) : Type 0 where
+  pub folds : badFolds N n .carried ≡ two N n
+  pub few : fewFolds N .carried ≡ two N 0
+  pub fraction : badFraction x .carried ≡ double x
+  pub others : bare number due .carried ≡ nothing
+
+pub carries : (number N n : ℕ) (x : Float) (due : Bool) → Carries number N n x due
+carries number N n x due = record { folds = refl; few = refl; fraction = refl; others = refl }
+
+-- 4, 19 and 9 with two that fail each. 9 carries the index and not its place, and searches the training list first.
+pub record CarriesFirst : Type 0 where
+  pub row : badSpan (table (pos 0 ∷ pos 5 ∷ pos 7 ∷ []) (pos 0 ∷ pos 4 ∷ pos 6 ∷ [])) .carried ≡ one 1
+  pub place : notFinite (fin false 0 (pos 0) ∷ inf false ∷ nan ∷ []) .carried ≡ one 1
+  pub training-index : outOfRange 3 (2 ∷ 4 ∷ 5 ∷ []) (9 ∷ []) .carried ≡ one 4
+  pub test-index : outOfRange 3 (2 ∷ []) (1 ∷ 9 ∷ []) .carried ≡ one 9
+
+pub carries-first : CarriesFirst
+unfolding firstFrom reaches
+carries-first = record { row = refl; place = refl; training-index = refl; test-index = refl }

@@ -28,6 +28,19 @@ pub drops-ways :
     × (drops (span (pos 3) (pos 5)) (span (pos 1) (pos 9)) ≡ true)
 drops-ways = (refl, refl, refl)
 
+-- What touches the test span at either end is dropped; what lies before or behind it is kept.
+pub drops-edges :
+    (drops (span (pos 3) (pos 5)) (span (pos 1) (pos 3)) ≡ true) × (drops (span (pos 3) (pos 5)) (span (pos 5) (pos 9)) ≡ true)
+    × (drops (span (pos 3) (pos 5)) (span (pos 1) (pos 2)) ≡ false) × (drops (span (pos 3) (pos 5)) (span (pos 6) (pos 9)) ≡ false)
+drops-edges = (refl, refl, refl, refl)
+
+-- In a test span that ends before its start no time lies. It drops what starts no later and ends no earlier than it does.
+pub drops-backward-test :
+    (drops (span (pos 5) (pos 3)) (span (pos 4) (pos 4)) ≡ true) × (drops (span (pos 5) (pos 3)) (span (pos 5) (pos 4)) ≡ true)
+    × (drops (span (pos 5) (pos 3)) (span (pos 4) (pos 3)) ≡ true) × (drops (span (pos 5) (pos 3)) (span (pos 6) (pos 4)) ≡ false)
+    × (drops (span (pos 5) (pos 3)) (span (pos 4) (pos 2)) ≡ false)
+drops-backward-test = (refl, refl, refl, refl, refl)
+
 -- A span passes unless its end is before its start.
 pub good-is : (T : Table) (a : Span) → good T a ≡ not (ltZ (a .end) (a .start))
 unfolding reaches
