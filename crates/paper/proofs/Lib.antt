@@ -22,3 +22,4 @@ pub mod TestedMeaning
 pub mod Times
 pub mod WidthExamples
 pub mod WidthMeaning
+pub mod WindowsMeaning

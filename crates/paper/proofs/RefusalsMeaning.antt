@@ -13,12 +13,31 @@ use borrow.Author.Tests.{ltb-true, ltb-false, leb-false, eqb-true, eqb-false, le
 use Rattle.lists.specs.Base.{firstFrom, first, tally}
 use Rattle.lists.specs.AnyLaws.{never}
 use Rattle.lists.specs.FirstLaws.{first-le, first-is, first-before, firstFrom-none}
-use Rattle.paper.specs.Refusals.{nothing, one, two, double}
+use Rattle.paper.specs.declared.refusal.Refusal.{Refusal}
+use Rattle.paper.specs.declared.refusal.Refusal.the-variants.{
+  NoRows,
+  InvalidSplits,
+  InvalidEmbargo,
+  WrongLength,
+  InvalidTestSplits,
+  InvalidMinTrainFolds,
+  TooManySplits,
+  TooManyRows,
+  TooManyFolds,
+  LengthsDiffer,
+  NoSuchNumber,
+  ZeroSize,
+  NothingToTest,
+  EmptyTrain,
+  ReturnsLength,
+}
+use Rattle.paper.specs.Refusals.{one, numberOf, carriedBy}
 use Rattle.paper.specs.Spans.{Table, table, reaches, good}
 use Rattle.paper.specs.Width.{isFraction}
 use Rattle.paper.specs.Sets.{tooMany, isSplit}
 use Rattle.paper.specs.Paths.{paths}
 use Rattle.paper.specs.Joining.{finite}
+use Rattle.paper.specs.Marks.{byPair}
 use Rattle.paper.specs.Checks.{
   Check,
   bare,
@@ -42,6 +61,7 @@ use Rattle.paper.specs.Checks.{
   returnsLength,
   notFinite,
   outOfRange,
+  emptyTrain,
 }
 
 -- The refusal is not given exactly when P holds.
@@ -208,15 +228,56 @@ outOfRange-passes n train test =
 
 -- ---- what is carried
 
--- 2: N and n, or N and 0; 3: the fraction. All that are made by `bare` carry nothing.
-pub record Carries (number N n : ℕ) (x : Float) (due : Bool) : Type 0 where
-  pub folds : badFolds N n .carried ≡ two N n
-  pub few : fewFolds N .carried ≡ two N 0
-  pub fraction : badFraction x .carried ≡ double x
-  pub others : bare number due .carried ≡ nothing
+-- The refusal has the check's number and carries what the check carries.
+abbrev Says : Refusal → Check → Type 0
+Says r c = (numberOf r ≡ c .number) × (carriedBy r ≡ c .carried)
 
-pub carries : (number N n : ℕ) (x : Float) (due : Bool) → Carries number N n x due
-carries number N n x due = record { folds = refl; few = refl; fraction = refl; others = refl }
+-- Each check, whatever it is made with, has its refusal: 2 carries N and n, or N and 0, 3 the fraction, most nothing.
+module _
+    (starts ends : List ℤ) (n N k m number a size step : ℕ) (x : Float) (set marks : List ℕ) (returns : List Float)
+  where
+    pub record Carries : Type 0 where
+      pub lengths-differ : Says LengthsDiffer (lengthsDiffer starts ends)
+      pub no-rows : Says NoRows (noRows n)
+      pub too-many-rows : Says TooManyRows (tooManyRows n)
+      pub bad-folds : Says (InvalidSplits N n) (badFolds N n)
+      pub few-folds : Says (InvalidSplits N 0) (fewFolds N)
+      pub bad-fraction : Says (InvalidEmbargo x) (badFraction x)
+      pub wrong-length : Says WrongLength (wrongLength marks n)
+      pub bad-test-folds : Says InvalidTestSplits (badTestFolds N k)
+      pub bad-minimum : Says InvalidMinTrainFolds (badMinimum N m)
+      pub too-many-folds : Says TooManyFolds (tooManyFolds N)
+      pub too-many-splits : Says TooManySplits (tooManySplits N k)
+      pub zero-size : Says ZeroSize (zeroSize a size step)
+      pub nothing-to-test : Says NothingToTest (nothingToTest a n)
+      pub no-such : Says NoSuchNumber (noSuch n number)
+      pub no-split : Says NoSuchNumber (noSplit N k set)
+      pub returns-length : Says ReturnsLength (returnsLength returns n N k)
+      pub empty-train : emptyTrain byPair marks ≡ bare 17 (eqb (tally 0 marks) 0) ∷ []
+      pub empty-train-says : Says EmptyTrain (bare 17 (eqb (tally 0 marks) 0))
+
+    pub carries : Carries
+    carries =
+        record {
+          lengths-differ = (refl, refl);
+          no-rows = (refl, refl);
+          too-many-rows = (refl, refl);
+          bad-folds = (refl, refl);
+          few-folds = (refl, refl);
+          bad-fraction = (refl, refl);
+          wrong-length = (refl, refl);
+          bad-test-folds = (refl, refl);
+          bad-minimum = (refl, refl);
+          too-many-folds = (refl, refl);
+          too-many-splits = (refl, refl);
+          zero-size = (refl, refl);
+          nothing-to-test = (refl, refl);
+          no-such = (refl, refl);
+          no-split = (refl, refl);
+          returns-length = (refl, refl);
+          empty-train = refl;
+          empty-train-says = (refl, refl);
+        }
 
 -- 4, 19 and 9 with two that fail each. 9 carries the index and not its place, and searches the training list first.
 pub record CarriesFirst : Type 0 where
