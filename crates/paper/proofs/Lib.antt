@@ -1,4 +1,5 @@
 -- What the definitions of specs/ mean, as laws, and the paper's worked examples.
+pub mod Accepted
 pub mod AnswersMeaning
 pub mod BlocksMeaning
 pub mod ChecksMeaning
