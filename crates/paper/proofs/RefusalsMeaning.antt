@@ -3,7 +3,7 @@
 use mathlib.Core.Path.{_≡_, refl, sym, ap, _∙_}
 use mathlib.Core.Bool.{Bool, true, false, not, _||_, _&&_, Bool·not-not}
 use mathlib.Core.List.{List, [], _∷_, _++_}
-use Prim.Native.Nat.{ℕ, _*_, _≤_, _<_}
+use Prim.Native.Nat.{ℕ, _-_, _*_, _≤_, _<_, min}
 use native.Mathlib.Omega.{arith}
 use lib.Dec.{leb, ltb, eqb}
 use lib.IntN.{ℤ, pos}
@@ -34,7 +34,7 @@ use Rattle.paper.specs.declared.refusal.Refusal.the-variants.{
 use Rattle.paper.specs.Refusals.{one, numberOf, carriedBy}
 use Rattle.paper.specs.Spans.{Table, table, reaches, good}
 use Rattle.paper.specs.Width.{isFraction}
-use Rattle.paper.specs.Sets.{tooMany, isSplit}
+use Rattle.paper.specs.Sets.{choose, tooMany, isSplit}
 use Rattle.paper.specs.Paths.{paths}
 use Rattle.paper.specs.Joining.{finite}
 use Rattle.paper.specs.Marks.{byPair}
@@ -150,6 +150,10 @@ tooManyFolds-passes N = at-most 11 N 64
 -- 8; its edge is `tooMany-edge` of Rows.
 pub tooManySplits-passes : (N k : ℕ) → Passes (tooManySplits N k) (tooMany N k ≡ false)
 tooManySplits-passes N k = record { shows = λ h. h; holds = λ h. h }
+
+pub tooManySplits-fits :
+    (N k : ℕ) → Passes (tooManySplits N k) (choose N (min k (N - k)) * min k (N - k) ≤ 18446744073709551615)
+tooManySplits-fits N k = at-most 8 (choose N (min k (N - k)) * min k (N - k)) 18446744073709551615
 
 -- 15
 pub zeroSize-passes : (a size step : ℕ) → Passes (zeroSize a size step) ((1 ≤ a) × (1 ≤ size) × (1 ≤ step))
