@@ -131,7 +131,10 @@ checked-first (b ∷ before) c behind a h e =
     let t = both {a = not (b .due)} h in
     rw (not-true (b .due) (t .0)) (checked-first before c behind a (t .1) e)
 
--- A refusal leaves lent memory as it was; 17 leaves the marks written.
+-- A result leaves its list written, and a refusal lent memory as it was; 17 leaves the marks written.
+pub lent-done : (A : Type 0) {B : Type 0} (a : A) (old new : List B) → lent (done a) old new ≡ new
+lent-done A a old new = refl
+
 pub lent-kept : (A : Type 0) {B : Type 0} (number : ℕ) (carried : Carried) (old new : List B) → (number ≡ 17 → ⊥) → lent {A = A} (refused number carried) old new ≡ old
 lent-kept A number carried old new h = rw (ne-eqb number 17 h)
 

@@ -7,13 +7,14 @@ use Prim.Native.Nat.{ℕ, _+_, _-_, _*_, _≤_, _<_}
 use lib.IntN.{ℤ}
 use lib.Ieee.{Float, nan}
 use lib.ListN.{length, getD}
+use Rattle.lists.specs.Base.{tally}
 use Rattle.paper.specs.declared.settings.Settings.{Settings}
 use Rattle.paper.specs.Spans.{Table, table, good}
 use Rattle.paper.specs.Width.{isFraction}
 use Rattle.paper.specs.Sets.{choose, tooMany, isSplit}
 use Rattle.paper.specs.Paths.{paths}
 use Rattle.paper.specs.Joining.{finite}
-use Rattle.paper.specs.Marks.{Rule}
+use Rattle.paper.specs.Marks.{Rule, byPair}
 use Rattle.paper.specs.Checks.{
   Check,
   tableChecks,
@@ -58,6 +59,7 @@ use Rattle.paper.proofs.RefusalsMeaning.{
   returnsLength-passes,
   notFinite-passes,
   outOfRange-passes,
+  emptyTrain-passes,
 }
 
 -- A table, a fraction, and a lent list of its length.
@@ -148,6 +150,23 @@ rolling-in starts ends x a size step s room marks h =
       nothingToTest-passes a n .shows (h .1 .1 .1 .1 .1 .1 .1 .0),
       noSuch-passes n (a + s * step) .shows (h .1 .1 .1 .1 .1 .1 .1 .1 .0),
     )
+
+-- By the pair rule, and so in the rolling layout, a row trains: of the split's own marks, whatever the lent list held.
+module _ (starts ends : List ℤ) (room marks : List ℕ) where
+  pub kfold-trains : (st : Settings) (s : ℕ) → Clear (kfoldChecks byPair starts ends st s room marks) → 1 ≤ tally 0 marks
+  kfold-trains st s h =
+      let t = table-in starts ends st room (noSuch (st .folds) s ∷ emptyTrain byPair marks) h in
+      emptyTrain-passes marks .shows (t .2 .1 .0)
+
+  pub cpcv-trains : (st : Settings) (k s : ℕ) → Clear (cpcvChecks byPair starts ends st k s room marks) → 1 ≤ tally 0 marks
+  cpcv-trains st k s h =
+      let last = noSuch (choose (st .folds) k) s ∷ emptyTrain byPair marks in
+      let t = table-in starts ends st room (combinationChecks (st .folds) k ++ last) h in
+      emptyTrain-passes marks .shows (sets-in (st .folds) k last (t .2) .1 .1 .0)
+
+  pub rolling-trains :
+      (x : Float) (a size step s : ℕ) → Clear (rollingChecks starts ends x a size step s room marks) → 1 ≤ tally 0 marks
+  rolling-trains x a size step s h = emptyTrain-passes marks .shows (h .1 .1 .1 .1 .1 .1 .1 .1 .1 .0)
 
 pub naive-in :
     (n N s : ℕ) (room : ℕ) → Clear (naiveChecks n N s room) → FoldsIn N n × (room ≡ n) × (s < N)

@@ -2,15 +2,17 @@
 -- split, and within a split row after row, a place for each row that the split tests.
 use mathlib.Core.Path.{_≡_, refl}
 use mathlib.Core.Bool.{Bool, true, false}
-use mathlib.Core.List.{[], _∷_}
-use Prim.Native.Nat.{ℕ, _+_}
+use mathlib.Core.List.{List, [], _∷_}
+use Prim.Native.Nat.{ℕ, _+_, _<_}
 use native.Mathlib.Numerals.{add-one}
 use native.Mathlib.Omega.{arith}
-use lib.Ieee.{binary64, ofBits}
+use lib.ListN.{length, getD}
+use lib.Ieee.{Float, nan, binary64, ofBits}
 use Rattle.lists.specs.Base.{bit, tab, count, sum, firstFrom}
 use Rattle.lists.specs.CountLaws.{count-more}
-use Rattle.paper.specs.Folds.{Rows, folds, evenBorder, evenBorders}
-use Rattle.paper.specs.Joining.{placeOf, placeOnPath, finite}
+use Rattle.lists.specs.TabLaws.{length-tab, getD-tab}
+use Rattle.paper.specs.Folds.{Rows, border, folds, evenBorder, evenBorders}
+use Rattle.paper.specs.Joining.{placeOf, placeOnPath, joined, finite}
 use Rattle.paper.specs.Sets.{listing, each}
 use Rattle.paper.specs.Paths.{holds, testsOf}
 
@@ -33,6 +35,14 @@ module _ (tests : ℕ → Rows) (n : ℕ) where
 pub places-of-five : tab (placeOnPath (evenBorders 5 4) 4 2 1) 5 ≡ 3 ∷ 4 ∷ 9 ∷ 10 ∷ 12 ∷ []
 unfolding placeOnPath tab sum count firstFrom folds evenBorder listing each holds testsOf
 places-of-five = refl
+
+-- A path writes a double for each row, in row order, each from its place.
+module _ (bs : List ℕ) (N k : ℕ) (returns : List Float) (p : ℕ) where
+  pub joined-length : length (joined bs N k returns p) ≡ border bs N
+  joined-length = length-tab _ (border bs N)
+
+  pub joined-at : (r : ℕ) → r < border bs N → getD (joined bs N k returns p) r nan ≡ getD returns (placeOnPath bs N k p r) nan
+  joined-at r h = getD-tab _ nan (border bs N) r h
 
 -- Of the doubles the infinities and the NaN are not finite.
 pub finite-doubles :
