@@ -69,7 +69,7 @@ use Rattle.paper.proofs.RefusalsMeaning.{
 -- ---- the groups that calls share
 
 table-clear :
-    (starts ends : List ℤ) (st : Settings) (room : List ℕ) (rest : List Check) → TableIn starts ends (st .embargo) room →
+    (starts ends : List ℤ) (st : Settings) (room : ℕ) (rest : List Check) → TableIn starts ends (st .embargo) room →
     FoldsIn (st .folds) (length starts) → Clear rest → Clear (tableChecks starts ends st room ++ rest)
 table-clear starts ends st room rest t f c =
     let n = length starts in (
@@ -95,7 +95,7 @@ sets-clear N k rest u c =
 
 -- ---- calls on rows
 
-module _ (starts ends : List ℤ) (st : Settings) (room marks : List ℕ) where
+module _ (starts ends : List ℤ) (st : Settings) (room : ℕ) (marks : List ℕ) where
   pub kfold-accepted :
       (s : ℕ) → TableIn starts ends (st .embargo) room → FoldsIn (st .folds) (length starts) → s < st .folds →
       Clear (kfoldChecks byWindow starts ends st s room marks)
@@ -128,7 +128,7 @@ module _ (starts ends : List ℤ) (st : Settings) (room marks : List ℕ) where
       (badMinimum-passes (st .folds) m .holds (g, l), (noSuch-passes (st .folds - m) s .holds h, tt))
 
 pub rolling-accepted :
-    (starts ends : List ℤ) (x : Float) (a size step s : ℕ) (room marks : List ℕ) → TableIn starts ends x room → 1 ≤ a →
+    (starts ends : List ℤ) (x : Float) (a size step s : ℕ) (room : ℕ) (marks : List ℕ) → TableIn starts ends x room → 1 ≤ a →
     1 ≤ size → 1 ≤ step → a + s * step < length starts → 1 ≤ tally 0 marks →
     Clear (rollingChecks starts ends x a size step s room marks)
 rolling-accepted starts ends x a size step s room marks t p q r h m =
@@ -158,7 +158,7 @@ rolling-accepted starts ends x a size step s room marks t p q r h m =
       ),
     )
 
-pub naive-accepted : (n N s : ℕ) (room : List ℕ) → FoldsIn N n → length room ≡ n → s < N → Clear (naiveChecks n N s room)
+pub naive-accepted : (n N s : ℕ) (room : ℕ) → FoldsIn N n → room ≡ n → s < N → Clear (naiveChecks n N s room)
 naive-accepted n N s room f l h =
     (badFolds-passes N n .holds (f .two, f .most), (wrongLength-passes room n .holds l, (noSuch-passes N s .holds h, tt)))
 
@@ -172,8 +172,8 @@ overlap-accepted starts ends train test e h =
     (lengthsDiffer-passes starts ends .holds e, (outOfRange-passes (length starts) train test .holds h, tt))
 
 pub trainTimes-accepted :
-    (starts ends testStarts testEnds : List ℤ) (room : List ℕ) → length starts ≡ length ends →
-    length testStarts ≡ length testEnds → length room ≡ length starts →
+    (starts ends testStarts testEnds : List ℤ) (room : ℕ) → length starts ≡ length ends →
+    length testStarts ≡ length testEnds → room ≡ length starts →
     Clear (trainTimesChecks starts ends testStarts testEnds room)
 trainTimes-accepted starts ends testStarts testEnds room e f l = (
   lengthsDiffer-passes starts ends .holds e,
@@ -181,7 +181,7 @@ trainTimes-accepted starts ends testStarts testEnds room e f l = (
 )
 
 pub joining-accepted :
-    (n N k p : ℕ) (returns room : List Float) → JoiningIn n N k p returns room → Clear (joiningChecks n N k p returns room)
+    (n N k p : ℕ) (returns : List Float) (room : ℕ) → JoiningIn n N k p returns room → Clear (joiningChecks n N k p returns room)
 joining-accepted n N k p returns room j =
     let f = j .folds in (
       noRows-passes n .holds (omega (arith, f .two, f .most)),
@@ -221,7 +221,7 @@ module _ (N k : ℕ) (h : 2 ≤ N) (u : SetsIn N k) where
         (noSuch-passes (paths N k) p .holds l, (noSuch-passes N g .holds m, tt)),
   )
 
-  pub wholePath-accepted : (p : ℕ) (room : List ℕ) → length room ≡ N → p < paths N k → Clear (wholePathChecks N k p room)
+  pub wholePath-accepted : (p : ℕ) (room : ℕ) → room ≡ N → p < paths N k → Clear (wholePathChecks N k p room)
   wholePath-accepted p room e l = (
     fewFolds-passes N .holds h,
     (
@@ -234,14 +234,14 @@ module _ (N k : ℕ) (h : 2 ≤ N) (u : SetsIn N k) where
 
 -- Joining gives 1 before it looks at the folds.
 pub joining-no-rows :
-    {A : Type 0} (N k p : ℕ) (returns room : List Float) (a : A) →
+    {A : Type 0} (N k p : ℕ) (returns : List Float) (room : ℕ) (a : A) →
     checked (joiningChecks 0 N k p returns room) a ≡ refused 1 nothing
 unfolding checked
 joining-no-rows N k p returns room a = refl
 
 -- The naive splitter gives 2, whatever N is.
 pub naive-no-rows :
-    {A : Type 0} (N s : ℕ) (room : List ℕ) (a : A) → checked (naiveChecks 0 N s room) a ≡ refused 2 (two N 0)
+    {A : Type 0} (N s : ℕ) (room : ℕ) (a : A) → checked (naiveChecks 0 N s room) a ≡ refused 2 (two N 0)
 unfolding checked
 naive-no-rows zero s room a = refl
 naive-no-rows (suc zero) s room a = refl

@@ -152,7 +152,7 @@ rolling-in starts ends x a size step s room marks h =
     )
 
 -- By the pair rule, and so in the rolling layout, a row trains: of the split's own marks, whatever the lent list held.
-module _ (starts ends : List ℤ) (room marks : List ℕ) where
+module _ (starts ends : List ℤ) (room : ℕ) (marks : List ℕ) where
   pub kfold-trains : (st : Settings) (s : ℕ) → Clear (kfoldChecks byPair starts ends st s room marks) → 1 ≤ tally 0 marks
   kfold-trains st s h =
       let t = table-in starts ends st room (noSuch (st .folds) s ∷ emptyTrain byPair marks) h in

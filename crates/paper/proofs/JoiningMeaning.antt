@@ -12,21 +12,21 @@ use Rattle.lists.specs.Base.{bit, tab, count, sum, firstFrom}
 use Rattle.lists.specs.CountLaws.{count-more}
 use Rattle.lists.specs.TabLaws.{length-tab, getD-tab}
 use Rattle.paper.specs.Folds.{Rows, border, folds, evenBorder, evenBorders}
-use Rattle.paper.specs.Joining.{placeOf, placeOnPath, joined, finite}
+use Rattle.paper.specs.Joining.{returnPlace, placeOnPath, joined, finite}
 use Rattle.paper.specs.Sets.{listing, each}
 use Rattle.paper.specs.Paths.{holds, testsOf}
 
 module _ (tests : ℕ → Rows) (n : ℕ) where
-  pub place-first : placeOf tests n 0 0 ≡ 0
+  pub place-first : returnPlace tests n 0 0 ≡ 0
   unfolding sum count
   place-first = refl
 
   -- A row that the split tests takes one place.
-  pub place-row : (i r : ℕ) → placeOf tests n i (r + 1) ≡ placeOf tests n i r + bit (tests i r)
+  pub place-row : (i r : ℕ) → returnPlace tests n i (r + 1) ≡ returnPlace tests n i r + bit (tests i r)
   place-row i r = rw (count-more (tests i) r) (omega arith)
 
   -- Behind the last row of a split comes the first of the next.
-  pub place-split : (i : ℕ) → placeOf tests n (i + 1) 0 ≡ placeOf tests n i n
+  pub place-split : (i : ℕ) → returnPlace tests n (i + 1) 0 ≡ returnPlace tests n i n
   unfolding sum count
   place-split i = rw add-one (omega arith)
 

@@ -12,7 +12,7 @@ use Rattle.lists.specs.CountLaws.{count-ext, count-or, tally-tab}
 use Rattle.paper.specs.Spans.{Table, overlap}
 use Rattle.paper.specs.Folds.{Rows}
 use Rattle.paper.specs.Blocks.{begins, past, window}
-use Rattle.paper.specs.Marks.{Rule, byWindow, byPair, purged, Split, mark, markOf, marksOf, countsOf}
+use Rattle.paper.specs.Marks.{Rule, byWindow, byPair, purged, Split, mark, markOf, marksOf, countsOf, embargoCount}
 use Rattle.paper.specs.Embargo.{embargoed}
 
 -- ---- purged rows
@@ -137,3 +137,10 @@ module _ (r : Rule) (T : Table) (s : Split) where
   unfolding markOf
   count-embargoed =
       two-tallies 3 4 (markOf r T s) (T .rows) (omega arith) ∙ count-ext _ _ (T .rows) (λ i h. says i .some-embargo)
+
+  -- The engine's count leaves out the rows that are purged too.
+  pub count-embargo-alone :
+      embargoCount (marksOf r T s)
+      ≡ count (λ i. not (s .test i) && (not (s .unused i) && (not (purged r T (s .test) i) && embargoed T (s .test) (s .width) i))) (T .rows)
+  unfolding markOf
+  count-embargo-alone = tally-tab 3 (markOf r T s) (T .rows) ∙ count-ext _ _ (T .rows) (λ i h. says i .embargo)

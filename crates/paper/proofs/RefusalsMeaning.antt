@@ -238,7 +238,7 @@ Says r c = (numberOf r ≡ c .number) × (carriedBy r ≡ c .carried)
 
 -- Each check, whatever it is made with, has its refusal: 2 carries N and n, or N and 0, 3 the fraction, most nothing.
 module _
-    (starts ends : List ℤ) (n N k m number a size step : ℕ) (x : Float) (set marks : List ℕ) (returns : List Float)
+    (starts ends : List ℤ) (n N k m number a size step room : ℕ) (x : Float) (set marks : List ℕ) (returns : List Float)
   where
     pub record Carries : Type 0 where
       pub lengths-differ : Says LengthsDiffer (lengthsDiffer starts ends)
@@ -247,7 +247,7 @@ module _
       pub bad-folds : Says (InvalidSplits N n) (badFolds N n)
       pub few-folds : Says (InvalidSplits N 0) (fewFolds N)
       pub bad-fraction : Says (InvalidEmbargo x) (badFraction x)
-      pub wrong-length : Says WrongLength (wrongLength marks n)
+      pub wrong-length : Says WrongLength (wrongLength room n)
       pub bad-test-folds : Says InvalidTestSplits (badTestFolds N k)
       pub bad-minimum : Says InvalidMinTrainFolds (badMinimum N m)
       pub too-many-folds : Says TooManyFolds (tooManyFolds N)
