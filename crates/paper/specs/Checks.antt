@@ -13,33 +13,8 @@ use Rattle.paper.specs.Spans.{table}
 use Rattle.paper.specs.Sets.{choose}
 use Rattle.paper.specs.Paths.{paths}
 use Rattle.paper.specs.Marks.{Rule, byPair}
-unfoldable pub use Rattle.paper.specs.Due.{
-  Check,
-  checked,
-  lent,
-  bare,
-  firstDue,
-  lengthsDiffer,
-  noRows,
-  tooManyRows,
-  badFolds,
-  fewFolds,
-  badFraction,
-  badSpan,
-  wrongLength,
-  badTestFolds,
-  badMinimum,
-  tooManyFolds,
-  tooManySplits,
-  zeroSize,
-  nothingToTest,
-  noSuch,
-  noSplit,
-  returnsLength,
-  notFinite,
-  outOfRange,
-  emptyTrain,
-}
+pub use Rattle.paper.specs.Due.{Check, lent, bare, firstDue, lengthsDiffer, noRows, tooManyRows, badFolds, fewFolds, badFraction, badSpan, wrongLength, badTestFolds, badMinimum, tooManyFolds, tooManySplits, zeroSize, nothingToTest, noSuch, noSplit, returnsLength, notFinite, outOfRange, emptyTrain}
+unfoldable pub use Rattle.paper.specs.Due.{checked}
 
 -- What k-fold, combinations and walk-forward check first: 12, 1, 10, 2, 3, 4, 5.
 abbrev pub tableChecks : List ℤ → List ℤ → Settings → ℕ → List Check
