@@ -54,8 +54,8 @@ Has chain numbers = (numbersOf chain ≡ numbers) × (partOf numbers tableOrder 
 
 -- Each call's numbers, whatever it is called with.
 module _
-    (starts ends testStarts testEnds : List ℤ) (st : Settings) (x : Float) (n N k m s p g a size step : ℕ) (marks room set train test : List ℕ)
-    (returns output : List Float)
+    (starts ends testStarts testEnds : List ℤ) (st : Settings) (x : Float) (n N k m s p g a size step room : ℕ) (marks set train test : List ℕ)
+    (returns : List Float)
   where
     pub record Chains : Type 0 where
       pub kfold-window : Has (kfoldChecks byWindow starts ends st s room marks) (12 ∷ 1 ∷ 10 ∷ 2 ∷ 3 ∷ 4 ∷ 5 ∷ 13 ∷ [])
@@ -70,7 +70,7 @@ module _
       pub naive : Has (naiveChecks n N s room) (2 ∷ 5 ∷ 13 ∷ [])
       pub overlap-count : Has (overlapChecks starts ends train test) (12 ∷ 9 ∷ [])
       pub train-times : Has (trainTimesChecks starts ends testStarts testEnds room) (12 ∷ 12 ∷ 5 ∷ [])
-      pub joining : Has (joiningChecks n N k p returns output) (1 ∷ 10 ∷ 2 ∷ 5 ∷ 6 ∷ 11 ∷ 8 ∷ 13 ∷ 18 ∷ 19 ∷ [])
+      pub joining : Has (joiningChecks n N k p returns room) (1 ∷ 10 ∷ 2 ∷ 5 ∷ 6 ∷ 11 ∷ 8 ∷ 13 ∷ 18 ∷ 19 ∷ [])
       pub numbers : Has (numbersChecks N k) (2 ∷ 6 ∷ 11 ∷ 8 ∷ [])
       pub split : Has (splitChecks N k s) (2 ∷ 6 ∷ 11 ∷ 8 ∷ 13 ∷ [])
       pub fold-set : Has (setChecks N k set) (2 ∷ 6 ∷ 11 ∷ 8 ∷ 13 ∷ [])

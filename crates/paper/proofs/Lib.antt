@@ -13,6 +13,7 @@ pub mod ListingMeaning
 pub mod MarksMeaning
 pub mod OverlapsMeaning
 pub mod PathsMeaning
+pub mod PlacesMeaning
 pub mod RefusalsMeaning
 pub mod Rows
 pub mod SetsExamples

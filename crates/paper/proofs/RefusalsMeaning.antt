@@ -106,8 +106,8 @@ pub badFraction-passes : (x : Float) → Passes (badFraction x) (isFraction x �
 badFraction-passes x = record { shows = not-false (isFraction x); holds = λ h. ap not h }
 
 -- 5
-pub wrongLength-passes : {A : Type 0} (l : List A) (n : ℕ) → Passes (wrongLength l n) (length l ≡ n)
-wrongLength-passes l n = same 5 (length l) n
+pub wrongLength-passes : (room n : ℕ) → Passes (wrongLength room n) (room ≡ n)
+wrongLength-passes room n = same 5 room n
 
 -- 6 and 7
 between : (number N k : ℕ) → Passes (bare number (eqb k 0 || leb N k)) ((1 ≤ k) × (k < N))

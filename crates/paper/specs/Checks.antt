@@ -1,7 +1,8 @@
 -- The checks of each call, in one chain each, in 01's order and numbers, with what each refusal carries (01, "Refusal
 -- numbers"). A chain gives the first of its refusals that is due.
 -- n is the number of rows, N that of folds, x the fraction, k the test folds of a split, m the minimum of training folds,
--- s a split number, p a path number, g a fold number; a, size and step are those of the rolling layout.
+-- s a split number, p a path number, g a fold number; a, size and step are those of the rolling layout; room is the length of
+-- the lent list that the call writes.
 use mathlib.Core.Bool.{Bool, cond, not, _||_, _&&_}
 use mathlib.Core.List.{List, [], _∷_, _++_}
 use Prim.Native.Nat.{ℕ, _+_, _-_, _*_}
@@ -71,9 +72,9 @@ badFraction x = record { number = 3; carried = double x; due = not (isFraction x
 abbrev pub badSpan : Table → Check
 badSpan T = firstDue 4 (λ i. not (good T (T .span i))) (T .rows) (λ i. i)
 
--- 5: a lent list not as long as it should be.
-abbrev pub wrongLength : {A : Type 0} → List A → ℕ → Check
-wrongLength l n = bare 5 (not (eqb (length l) n))
+-- 5: a lent list, `room` long, is not n long.
+abbrev pub wrongLength : ℕ → ℕ → Check
+wrongLength room n = bare 5 (not (eqb room n))
 
 -- 6: k = 0 or k ≥ N.
 abbrev pub badTestFolds : ℕ → ℕ → Check
@@ -126,15 +127,15 @@ emptyTrain byWindow marks = []
 emptyTrain byPair marks = bare 17 (eqb (tally 0 marks) 0) ∷ []
 
 -- What all split calls on folds check first: 12, 1, 10, 2, 3, 4, 5.
-abbrev pub tableChecks : List ℤ → List ℤ → Settings → List ℕ → List Check
-tableChecks starts ends st lentMarks =
+abbrev pub tableChecks : List ℤ → List ℤ → Settings → ℕ → List Check
+tableChecks starts ends st room =
     lengthsDiffer starts ends
     ∷ noRows (length starts)
     ∷ tooManyRows (length starts)
     ∷ badFolds (st .folds) (length starts)
     ∷ badFraction (st .embargo)
     ∷ badSpan (table starts ends)
-    ∷ wrongLength lentMarks (length starts)
+    ∷ wrongLength room (length starts)
     ∷ []
 
 -- What all calls on combinations check: 6, 11, 8.
@@ -142,57 +143,57 @@ abbrev pub combinationChecks : ℕ → ℕ → List Check
 combinationChecks N k = badTestFolds N k ∷ tooManyFolds N ∷ tooManySplits N k ∷ []
 
 -- k-fold, by either rule. `marks` are those of the split.
-abbrev pub kfoldChecks : Rule → List ℤ → List ℤ → Settings → ℕ → List ℕ → List ℕ → List Check
-kfoldChecks r starts ends st s lentMarks marks =
-    tableChecks starts ends st lentMarks ++ noSuch (st .folds) s ∷ emptyTrain r marks
+abbrev pub kfoldChecks : Rule → List ℤ → List ℤ → Settings → ℕ → ℕ → List ℕ → List Check
+kfoldChecks r starts ends st s room marks =
+    tableChecks starts ends st room ++ noSuch (st .folds) s ∷ emptyTrain r marks
 
 -- Combinations, by either rule.
-abbrev pub cpcvChecks : Rule → List ℤ → List ℤ → Settings → ℕ → ℕ → List ℕ → List ℕ → List Check
-cpcvChecks r starts ends st k s lentMarks marks =
-    tableChecks starts ends st lentMarks
+abbrev pub cpcvChecks : Rule → List ℤ → List ℤ → Settings → ℕ → ℕ → ℕ → List ℕ → List Check
+cpcvChecks r starts ends st k s room marks =
+    tableChecks starts ends st room
     ++ combinationChecks (st .folds) k
     ++ noSuch (choose (st .folds) k) s
     ∷ emptyTrain r marks
 
 -- Walk-forward.
-abbrev pub walkForwardChecks : List ℤ → List ℤ → Settings → ℕ → ℕ → List ℕ → List Check
-walkForwardChecks starts ends st m s lentMarks =
-    tableChecks starts ends st lentMarks ++ badMinimum (st .folds) m ∷ noSuch (st .folds - m) s ∷ []
+abbrev pub walkForwardChecks : List ℤ → List ℤ → Settings → ℕ → ℕ → ℕ → List Check
+walkForwardChecks starts ends st m s room =
+    tableChecks starts ends st room ++ badMinimum (st .folds) m ∷ noSuch (st .folds - m) s ∷ []
 
 -- The rolling layout: no N, the fraction for 3 only, and the pair rule.
-abbrev pub rollingChecks : List ℤ → List ℤ → Float → ℕ → ℕ → ℕ → ℕ → List ℕ → List ℕ → List Check
-rollingChecks starts ends x a size step s lentMarks marks =
+abbrev pub rollingChecks : List ℤ → List ℤ → Float → ℕ → ℕ → ℕ → ℕ → ℕ → List ℕ → List Check
+rollingChecks starts ends x a size step s room marks =
     lengthsDiffer starts ends
     ∷ noRows (length starts)
     ∷ tooManyRows (length starts)
     ∷ badFraction x
     ∷ badSpan (table starts ends)
-    ∷ wrongLength lentMarks (length starts)
+    ∷ wrongLength room (length starts)
     ∷ zeroSize a size step
     ∷ nothingToTest a (length starts)
     ∷ noSuch (length starts) (a + s * step)
     ∷ emptyTrain byPair marks
 
 -- The naive splitter.
-abbrev pub naiveChecks : ℕ → ℕ → ℕ → List ℕ → List Check
-naiveChecks n N s lentMarks = badFolds N n ∷ wrongLength lentMarks n ∷ noSuch N s ∷ []
+abbrev pub naiveChecks : ℕ → ℕ → ℕ → ℕ → List Check
+naiveChecks n N s room = badFolds N n ∷ wrongLength room n ∷ noSuch N s ∷ []
 
 -- The overlap count reads spans as they are.
 abbrev pub overlapChecks : List ℤ → List ℤ → List ℕ → List ℕ → List Check
 overlapChecks starts ends train test = lengthsDiffer starts ends ∷ outOfRange (length starts) train test ∷ []
 
 -- `ml_get_train_times`: 12 for either pair of lists.
-abbrev pub trainTimesChecks : List ℤ → List ℤ → List ℤ → List ℤ → List ℕ → List Check
-trainTimesChecks starts ends testStarts testEnds lentFlags =
-    lengthsDiffer starts ends ∷ lengthsDiffer testStarts testEnds ∷ wrongLength lentFlags (length starts) ∷ []
+abbrev pub trainTimesChecks : List ℤ → List ℤ → List ℤ → List ℤ → ℕ → List Check
+trainTimesChecks starts ends testStarts testEnds room =
+    lengthsDiffer starts ends ∷ lengthsDiffer testStarts testEnds ∷ wrongLength room (length starts) ∷ []
 
 -- Joining path p.
-abbrev pub joiningChecks : ℕ → ℕ → ℕ → ℕ → List Float → List Float → List Check
-joiningChecks n N k p returns lentOutput =
+abbrev pub joiningChecks : ℕ → ℕ → ℕ → ℕ → List Float → ℕ → List Check
+joiningChecks n N k p returns room =
     noRows n
     ∷ tooManyRows n
     ∷ badFolds N n
-    ∷ wrongLength lentOutput n
+    ∷ wrongLength room n
     ∷ combinationChecks N k
     ++ noSuch (paths N k) p
     ∷ returnsLength returns n N k
@@ -216,6 +217,6 @@ abbrev pub pathChecks : ℕ → ℕ → ℕ → ℕ → List Check
 pathChecks N k p g = numbersChecks N k ++ noSuch (paths N k) p ∷ noSuch N g ∷ []
 
 -- The whole path, in a lent list of N places. A list of another length gets 5, in its place of the order.
-abbrev pub wholePathChecks : ℕ → ℕ → ℕ → List ℕ → List Check
-wholePathChecks N k p lentPath =
-    fewFolds N ∷ wrongLength lentPath N ∷ combinationChecks N k ++ noSuch (paths N k) p ∷ []
+abbrev pub wholePathChecks : ℕ → ℕ → ℕ → ℕ → List Check
+wholePathChecks N k p room =
+    fewFolds N ∷ wrongLength room N ∷ combinationChecks N k ++ noSuch (paths N k) p ∷ []

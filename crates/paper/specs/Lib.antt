@@ -10,7 +10,9 @@ pub mod Layouts
 pub mod Marks
 pub mod Overlaps
 pub mod Paths
+pub mod Places
 pub mod Refusals
+pub mod RowCalls
 pub mod Sets
 pub mod Spans
 pub mod Width
