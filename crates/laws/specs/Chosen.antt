@@ -49,6 +49,12 @@ rises-next f e (a ∷ []) r j h = absurd (omega arith)
 rises-next f e (a ∷ (b ∷ s)) r zero h = r .2 .0
 rises-next f e (a ∷ (b ∷ s)) r (suc j) h = rises-next (suc a) e (b ∷ s) (r .2) j (omega arith)
 
+-- So each fold of a split is a fold.
+pub isSplit-below : (N k : ℕ) (fs : List ℕ) → isSplit N k fs ≡ true → (j : ℕ) → j < k → getD fs j 0 < N
+isSplit-below N k fs h j l =
+    let s = isSplit-rises N k fs h in
+    rises-below 0 N fs (s .0) j (omega (arith, s .1))
+
 -- Over borders of n rows, an ascending list of folds below N gives ranges of these rows.
 pub folds-ranges :
     {bs : List ℕ} {N n : ℕ} → Borders bs N n → (fs : List ℕ) (k : ℕ) → isSplit N k fs ≡ true →
@@ -67,7 +73,7 @@ folds-ranges {bs} {N} {n} w fs k h =
     next j l = rw add-one (rises-next 0 N fs (s .0) j (omega (arith, s .1)))
 
     below : (j : ℕ) → j < k → getD fs j 0 < N
-    below j l = rises-below 0 N fs (s .0) j (omega (arith, s .1))
+    below = isSplit-below N k fs h
 
 -- ---- one range
 
