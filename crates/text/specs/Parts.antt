@@ -35,9 +35,18 @@ ended [] = []
 ended (p ∷ []) = []
 ended (p ∷ q ∷ ps) = p ∷ ended (q ∷ ps)
 
--- The lines of a text, without their LF. What stands behind the last LF is no line.
+-- The last of them.
+unfoldable pub behindLast : List (List ℕ) → List ℕ
+behindLast [] = []
+behindLast (p ∷ []) = p
+behindLast (p ∷ q ∷ ps) = behindLast (q ∷ ps)
+
+-- The lines of a text, without their LF; and what stands behind the last LF, which is no line.
 abbrev pub linesOf : List ℕ → List (List ℕ)
 linesOf s = ended (partsOf lf s)
+
+abbrev pub restOf : List ℕ → List ℕ
+restOf s = behindLast (partsOf lf s)
 
 -- The first place from a on that holds the byte. Where there is none: the length, or a where that is more.
 unfoldable pub findFrom : ℕ → List ℕ → ℕ → ℕ
@@ -50,6 +59,13 @@ part s a e = take (e - a) (drop a s)
 -- The parts that begin at a and behind it. A place past the end has none.
 abbrev pub partsFrom : ℕ → List ℕ → ℕ → List (List ℕ)
 partsFrom b s a = cond (leb a (length s)) (partsOf b (drop a s)) []
+
+-- The lines from a on, and what stands behind them.
+abbrev pub linesFrom : List ℕ → ℕ → List (List ℕ)
+linesFrom s a = ended (partsFrom lf s a)
+
+abbrev pub restFrom : List ℕ → ℕ → List ℕ
+restFrom s a = behindLast (partsFrom lf s a)
 
 -- The field that begins at a ends at e. The bounds follow from the place; whoever takes the field out asks for them.
 pub record Ends (s : List ℕ) (a e : ℕ) : Type 0 where

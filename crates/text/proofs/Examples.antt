@@ -1,0 +1,81 @@
+-- Worked examples of the readings, by computation (01, "Report program"). Bytes are written as numbers: 48 is 0, 57 is 9, 45 is the minus.
+use mathlib.Core.Path.{_≡_, refl}
+use mathlib.Core.List.{List, [], _∷_, _++_}
+use mathlib.Core.Option.{Option, none, some}
+use Prim.Native.Nat.{ℕ}
+use lib.Ieee.{nan, binary64, ofBits}
+use lib.IntN.{ℤ, pos, negsuc}
+use Rattle.lists.specs.Base.{firstFrom}
+use Rattle.text.specs.Numbers.{digitOf, behind, decimalOf, signedOf, doubleOf, lastDigits, digitCount, decimalText, signedText}
+use Rattle.text.specs.Parts.{partsOf, ended, behindLast, findFrom, fieldsOf, linesOf, restOf, fieldAs}
+
+-- 2^64 - 1 is a decimal, and 2^64 is none.
+most : List ℕ
+most = 49 ∷ 56 ∷ 52 ∷ 52 ∷ 54 ∷ 55 ∷ 52 ∷ 52 ∷ 48 ∷ 55 ∷ 51 ∷ 55 ∷ 48 ∷ 57 ∷ 53 ∷ 53 ∷ 49 ∷ 54 ∷ 49 ∷ 53 ∷ []
+
+over : List ℕ
+over = 49 ∷ 56 ∷ 52 ∷ 52 ∷ 54 ∷ 55 ∷ 52 ∷ 52 ∷ 48 ∷ 55 ∷ 51 ∷ 55 ∷ 48 ∷ 57 ∷ 53 ∷ 53 ∷ 49 ∷ 54 ∷ 49 ∷ 54 ∷ []
+
+decimals :
+    (decimalOf (48 ∷ []) ≡ some 0)
+    × (decimalOf (49 ∷ 48 ∷ []) ≡ some 10)
+    × (decimalOf most ≡ some 18446744073709551615)
+    × (decimalOf over ≡ none)
+    × (decimalOf [] ≡ none)
+    × (decimalOf (48 ∷ 55 ∷ []) ≡ none)
+    × (decimalOf (43 ∷ 55 ∷ []) ≡ none)
+    × (decimalOf (55 ∷ 32 ∷ []) ≡ none)
+    × (decimalOf (65 ∷ []) ≡ none)
+unfolding decimalOf behind digitOf most over
+decimals = (refl, refl, refl, refl, refl, refl, refl, refl, refl)
+
+-- 7, -7, -0, a minus alone, two of them.
+signs :
+    (signedOf (55 ∷ []) ≡ some (pos 7))
+    × (signedOf (45 ∷ 55 ∷ []) ≡ some (negsuc 6))
+    × (signedOf (45 ∷ 48 ∷ []) ≡ none)
+    × (signedOf (45 ∷ []) ≡ none)
+    × (signedOf (45 ∷ 45 ∷ 55 ∷ []) ≡ none)
+unfolding signedOf behind digitOf
+signs = (refl, refl, refl, refl, refl)
+
+-- Sixteen digits: a bit pattern, here 1.0; with lower-case letters, or fewer, none. Patterns of NaNs are one value.
+ones : ℕ → List ℕ
+ones c = 51 ∷ c ∷ c ∷ 48 ∷ 48 ∷ 48 ∷ 48 ∷ 48 ∷ 48 ∷ 48 ∷ 48 ∷ 48 ∷ 48 ∷ 48 ∷ 48 ∷ 48 ∷ []
+
+doubles :
+    (doubleOf (ones 70) ≡ some (ofBits binary64 0x3ff0_0000_0000_0000))
+    × (doubleOf (ones 102) ≡ none)
+    × (doubleOf (48 ∷ []) ≡ none)
+    × (doubleOf (55 ∷ 70 ∷ 70 ∷ 56 ∷ 48 ∷ 48 ∷ 48 ∷ 48 ∷ 48 ∷ 48 ∷ 48 ∷ 48 ∷ 48 ∷ 48 ∷ 48 ∷ 48 ∷ []) ≡ some nan)
+    × (doubleOf (70 ∷ 70 ∷ 70 ∷ 48 ∷ 48 ∷ 48 ∷ 48 ∷ 48 ∷ 48 ∷ 48 ∷ 48 ∷ 48 ∷ 48 ∷ 48 ∷ 48 ∷ 49 ∷ []) ≡ some nan)
+unfolding doubleOf behind digitOf ones ofBits
+doubles = (refl, refl, refl, refl, refl)
+
+-- The texts that are written: 0, 10, -7.
+texts :
+    (decimalText 0 ≡ 48 ∷ [])
+    × (decimalText 10 ≡ 49 ∷ 48 ∷ [])
+    × (decimalText 18446744073709551615 ≡ most)
+    × (signedText (negsuc 6) ≡ 45 ∷ 55 ∷ [])
+unfolding lastDigits digitCount firstFrom most
+texts = (refl, refl, refl, refl)
+
+-- A tab at the end begins one more field, which is empty. An LF at the end begins no line.
+parts :
+    (fieldsOf (80 ∷ 9 ∷ 54 ∷ 9 ∷ []) ≡ (80 ∷ []) ∷ (54 ∷ []) ∷ [] ∷ [])
+    × (fieldsOf [] ≡ [] ∷ [])
+    × (linesOf (80 ∷ 10 ∷ 10 ∷ []) ≡ (80 ∷ []) ∷ [] ∷ [])
+    × (restOf (80 ∷ 10 ∷ 10 ∷ []) ≡ [])
+    × (linesOf (80 ∷ 10 ∷ 76 ∷ []) ≡ (80 ∷ []) ∷ [])
+    × (restOf (80 ∷ 10 ∷ 76 ∷ []) ≡ 76 ∷ [])
+unfolding partsOf ended behindLast
+parts = (refl, refl, refl, refl, refl, refl)
+
+-- The fields of `6 7` in turn: the second is the last, and behind it there is none.
+fields :
+    (fieldAs decimalOf (54 ∷ 9 ∷ 55 ∷ []) 0 ≡ some (record { value = 6; next = 2 }))
+    × (fieldAs decimalOf (54 ∷ 9 ∷ 55 ∷ []) 2 ≡ some (record { value = 7; next = 4 }))
+    × (fieldAs decimalOf (54 ∷ 9 ∷ 55 ∷ []) 4 ≡ none)
+unfolding fieldAs findFrom firstFrom decimalOf behind digitOf
+fields = (refl, refl, refl)
