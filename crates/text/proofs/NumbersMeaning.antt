@@ -27,14 +27,19 @@ nothing : {A X : Type 0} {a : A} {o : Option A} → o ≡ none → o ≡ some a 
 nothing {a} {o} p q = let y : _≡_ {A = ℕ} 0 1 = cc in absurd (omega arith)
 
 -- How many digits there are: they hold n, and fewer do not.
-pub count-is : (n k : ℕ) → 1 ≤ k → k ≤ 20 → n < 10 ^ k → (1 < k → 10 ^ (k - 1) ≤ n) → digitCount n ≡ k
+pub count-is : (n k : ℕ) → n < 2 ^ 64 → 1 ≤ k → n < 10 ^ k → (1 < k → 10 ^ (k - 1) ≤ n) → digitCount n ≡ k
 unfolding digitCount
-count-is n k g h l few = firstFrom-at (λ j. ltb n (10 ^ j)) 1 20 k g (omega arith) (lt-ltb n (10 ^ k) l) fewer
+count-is n k h g l few =
+    firstFrom-at (λ j. ltb n (10 ^ j)) 1 20 k g (short (decLt 20 k)) (lt-ltb n (10 ^ k) l) (λ j a b. le-ltb n (10 ^ j) (fewer j a b))
   where
-    fewer : (j : ℕ) → 1 ≤ j → j < k → ltb n (10 ^ j) ≡ false
+    fewer : (j : ℕ) → 1 ≤ j → j < k → 10 ^ j ≤ n
     fewer j a b =
         let p : j ≤ k - 1 = omega arith in
-        le-ltb n (10 ^ j) (le-trans (pow-le-pow-right (lit< tt) p) (few (omega arith)))
+        le-trans (pow-le-pow-right (lit< tt) p) (few (omega arith))
+
+    short : Dec (20 < k) → k < 1 + 20
+    short (yes m) = let q : 10 ^ 20 ≤ n = fewer 20 (lit≤ tt) m in absurd (omega arith)
+    short (no m) = omega arith
 
 record Counted (n k : ℕ) : Type 0 where
   pub low : 1 ≤ k
@@ -108,15 +113,7 @@ spelled-once s n c e h =
     let d = behind-only 10 (lit< tt) s (length s) (le-refl _) n (rw (take-length s) e) in
     let t : s ≡ lastDigits 10 (length s) n = sym (take-length s) ∙ d .0 in
     let some-byte : 0 < length s = ltb-true 0 (length s) (both {a = ltb 0 (length s)} c .0) in
-    let few = lead-needed s n c t in
-    t ∙ ap (λ k. lastDigits 10 k n) (sym (count-is n (length s) some-byte (short (decLt 20 (length s)) few) (d .1) few))
-  where
-    short : Dec (20 < length s) → (1 < length s → 10 ^ (length s - 1) ≤ n) → length s ≤ 20
-    short (yes l) few =
-        let p : 20 ≤ length s - 1 = omega arith in
-        let q : 10 ^ 20 ≤ n = le-trans (pow-le-pow-right (lit< tt) p) (few (omega arith)) in
-        absurd (omega arith)
-    short (no g) few = omega arith
+    t ∙ ap (λ k. lastDigits 10 k n) (sym (count-is n (length s) h some-byte (d .1) (lead-needed s n c t)))
 
 pub decimal-only : (s : List ℕ) (n : ℕ) → decimalOf s ≡ some n → (s ≡ decimalText n) × (n < 2 ^ 64)
 unfolding decimalOf
