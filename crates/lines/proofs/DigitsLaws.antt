@@ -1,14 +1,14 @@
 -- The kit's decimal digits are those of `decimalText`.
 use mathlib.Core.Path.{_≡_, refl, sym, ap, _∙_}
-use mathlib.Core.List.{List, [], _∷_, _++_}
-use Prim.Native.Nat.{ℕ, zero, suc, _-_, _/_, _%_, _^_, _≤_, _<_}
+use mathlib.Core.List.{List}
+use Prim.Native.Nat.{ℕ, zero, suc, _-_, _/_, _%_, _^_, _<_}
 use native.Mathlib.Nat.{mod-lt}
 use native.Mathlib.Omega.{arith}
 use lib.Dec.{lit<}
 use lib.ListN.{take, drop}
 use borrow.Author.Tests.{lt-ltb}
 use Rattle.io.specs.Digits.{digits, Fewest}
-use Rattle.text.specs.Numbers.{lastDigits, digitCount, decimalText}
+use Rattle.text.specs.Numbers.{lastDigits, decimalText}
 use Rattle.text.proofs.NumbersMeaning.{count-is}
 
 digits-same : (k n : ℕ) → digits 10 k n ≡ lastDigits 10 k n

@@ -1,13 +1,12 @@
 -- Worked examples of the readings, by computation (01, "Report program"). Bytes are written as numbers: 48 is 0, 57 is 9, 45 is the minus.
 use mathlib.Core.Path.{_≡_, refl}
-use mathlib.Core.List.{List, [], _∷_, _++_}
-use mathlib.Core.Option.{Option, none, some}
+use mathlib.Core.List.{List, [], _∷_}
+use mathlib.Core.Option.{none, some}
 use Prim.Native.Nat.{ℕ}
 use lib.Ieee.{nan, binary64, ofBits}
-use lib.IntN.{ℤ, pos, negsuc}
+use lib.IntN.{pos, negsuc}
 use Rattle.lists.specs.Base.{firstFrom}
 use Rattle.text.specs.Numbers.{digitOf, behind, decimalOf, signedOf, doubleOf, lastDigits, digitCount, decimalText, signedText}
-use Rattle.text.specs.Parts.{partsOf, ended, behindLast, findFrom, fieldsOf, linesOf, restOf, fieldAs}
 
 -- 2^64 - 1 is a decimal, and 2^64 is none.
 most : List ℕ
@@ -60,22 +59,3 @@ texts :
     × (signedText (negsuc 6) ≡ 45 ∷ 55 ∷ [])
 unfolding lastDigits digitCount firstFrom most
 texts = (refl, refl, refl, refl)
-
--- A tab at the end begins one more field, which is empty. An LF at the end begins no line.
-parts :
-    (fieldsOf (80 ∷ 9 ∷ 54 ∷ 9 ∷ []) ≡ (80 ∷ []) ∷ (54 ∷ []) ∷ [] ∷ [])
-    × (fieldsOf [] ≡ [] ∷ [])
-    × (linesOf (80 ∷ 10 ∷ 10 ∷ []) ≡ (80 ∷ []) ∷ [] ∷ [])
-    × (restOf (80 ∷ 10 ∷ 10 ∷ []) ≡ [])
-    × (linesOf (80 ∷ 10 ∷ 76 ∷ []) ≡ (80 ∷ []) ∷ [])
-    × (restOf (80 ∷ 10 ∷ 76 ∷ []) ≡ 76 ∷ [])
-unfolding partsOf ended behindLast
-parts = (refl, refl, refl, refl, refl, refl)
-
--- The fields of `6 7` in turn: the second is the last, and behind it there is none.
-fields :
-    (fieldAs decimalOf (54 ∷ 9 ∷ 55 ∷ []) 0 ≡ some (record { value = 6; next = 2 }))
-    × (fieldAs decimalOf (54 ∷ 9 ∷ 55 ∷ []) 2 ≡ some (record { value = 7; next = 4 }))
-    × (fieldAs decimalOf (54 ∷ 9 ∷ 55 ∷ []) 4 ≡ none)
-unfolding fieldAs findFrom firstFrom decimalOf behind digitOf
-fields = (refl, refl, refl)

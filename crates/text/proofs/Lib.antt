@@ -2,9 +2,7 @@
 pub mod BehindLaws
 pub mod DigitLaws
 pub mod Examples
-pub mod FieldLaws
 pub mod NanLaws
 pub mod NumbersMeaning
-pub mod PartsMeaning
 pub mod SignLaws
 pub mod WordLaws

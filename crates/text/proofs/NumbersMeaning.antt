@@ -1,8 +1,8 @@
 -- What the readings mean: exactly one text spells each number, the one that is written for it. `-back`: it is read as the
 -- number. `-only`: what is read as the number is that text.
-use mathlib.Core.Path.{_≡_, refl, sym, ap, subst, _∙_}
+use mathlib.Core.Path.{_≡_, refl, sym, ap, _∙_}
 use mathlib.Core.Bool.{Bool, true, false, cond, _||_, not}
-use mathlib.Core.List.{List, [], _∷_, _++_}
+use mathlib.Core.List.{List, [], _∷_}
 use mathlib.Core.Option.{Option, none, some, Option·some-injective}
 use Prim.Native.Nat.{ℕ, zero, suc, _+_, _-_, _/_, _%_, _^_, _≤_, _<_}
 use native.Mathlib.Nat.{pow-suc, pow-le-pow-right, le-refl, le-trans}
@@ -18,7 +18,7 @@ use borrow.Author.Tests.{lt-ltb, le-ltb, eq-eqb, ne-eqb, ltb-true, ltb-false, eq
 use Rattle.lists.specs.Base.{firstFrom}
 use Rattle.lists.specs.FirstLaws.{firstFrom-ge, firstFrom-is, firstFrom-before, firstFrom-at}
 use Rattle.lists.specs.AnyLaws.{never, both}
-use Rattle.text.specs.Numbers.{digitOf, below, behind, wordOf, canonical, decimalOf, upward, downward, signedOf, doubleOf, glyph, lastDigits, digitCount, decimalText, signedText}
+use Rattle.text.specs.Numbers.{digitOf, behind, wordOf, canonical, decimalOf, upward, downward, signedOf, doubleOf, glyph, lastDigits, digitCount, decimalText, signedText}
 use Rattle.text.proofs.BehindLaws.{below-is, below-some}
 use Rattle.text.proofs.DigitLaws.{length-digits, behind-back, behind-only}
 
@@ -43,6 +43,7 @@ count-is n k h g l few =
 
 record Counted (n k : ℕ) : Type 0 where
   pub low : 1 ≤ k
+  pub high : k ≤ 20
   pub holds : n < 10 ^ k
   pub fewest : 1 < k → 10 ^ (k - 1) ≤ n
 
@@ -51,17 +52,21 @@ unfolding digitCount
 counted n h =
     let p : ℕ → Bool = λ k. ltb n (10 ^ k) in
     let k = firstFrom p 1 20 in
+    let few : k ≤ 20 = at-most (decLt k 21) in
     record {
       low = firstFrom-ge p 1 20;
-      holds = go (decLt k 21);
+      high = few;
+      holds = ltb-true n (10 ^ k) (firstFrom-is p 1 20 (omega arith));
       fewest = λ l. ltb-false n (10 ^ (k - 1)) (firstFrom-before p 1 20 (k - 1) (omega arith) (omega arith));
     }
   where
-    go : Dec (firstFrom (λ k. ltb n (10 ^ k)) 1 20 < 21) → n < 10 ^ firstFrom (λ k. ltb n (10 ^ k)) 1 20
-    go (yes l) = ltb-true _ _ (firstFrom-is (λ k. ltb n (10 ^ k)) 1 20 l)
-    go (no g) =
-        let at20 = firstFrom-before (λ k. ltb n (10 ^ k)) 1 20 20 (lit≤ tt) (omega arith) in
-        never (lt-ltb n (10 ^ 20) (omega arith)) at20
+    at-most : Dec (firstFrom (λ k. ltb n (10 ^ k)) 1 20 < 21) → firstFrom (λ k. ltb n (10 ^ k)) 1 20 ≤ 20
+    at-most (yes l) = omega arith
+    at-most (no g) =
+        never (lt-ltb n (10 ^ 20) (omega arith)) (firstFrom-before (λ k. ltb n (10 ^ k)) 1 20 20 (lit≤ tt) (omega arith))
+
+pub decimal-length : (n : ℕ) → n < 2 ^ 64 → (1 ≤ length (decimalText n)) × (length (decimalText n) ≤ 20)
+decimal-length n h = rw (length-digits 10 (digitCount n) n) (counted n h .low, counted n h .high)
 
 -- The first digit is 0 exactly where fewer digits hold the number.
 lead-zero : (k n : ℕ) → n < 10 ^ k → getD (lastDigits 10 (suc k) n) 0 0 ≡ 48

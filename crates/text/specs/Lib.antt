@@ -1,4 +1,3 @@
--- What bytes spell, and where the parts of a text lie. Nothing here knows of splits.
+-- What bytes spell. Nothing here knows of splits.
 pub mod Answers
 pub mod Numbers
-pub mod Parts
