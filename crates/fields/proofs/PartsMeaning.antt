@@ -3,7 +3,7 @@
 use mathlib.Core.Path.{_≡_, refl, sym, ap, _∙_}
 use mathlib.Core.Bool.{Bool, true, false, cond}
 use mathlib.Core.List.{List, [], _∷_, _++_}
-use mathlib.Core.Option.{Option, none, Option·map}
+use mathlib.Core.Option.{Option, none, some, Option·map}
 use Prim.Native.Nat.{ℕ, zero, suc, _+_, _-_, _≤_, _<_}
 use native.Mathlib.Numerals.{add-one}
 use native.Mathlib.Omega.{arith}
@@ -14,7 +14,7 @@ use lib.Seq.{drop-cons}
 use borrow.Author.Tests.{le-leb, lt-leb, eqb-true, eqb-false}
 use Rattle.lists.specs.Base.{firstFrom}
 use Rattle.lists.specs.FirstLaws.{firstFrom-ge}
-use Rattle.fields.specs.Parts.{tabByte, lfByte, onFirst, partsOf, ended, behindLast, findFrom, part, partsFrom, linesFrom, restFrom, fieldAs}
+use Rattle.fields.specs.Parts.{tabByte, lfByte, onFirst, partsOf, ended, behindLast, findFrom, part, partsFrom, linesFrom, restFrom, firstAs, Field, fieldAs}
 
 -- The parts with the byte between them.
 unfoldable pub joined : ℕ → List (List ℕ) → List ℕ
@@ -78,10 +78,15 @@ part-cons s a e h l = let z : e - a ≡ suc (e - suc a) = omega arith in rw (dro
 
 module _ (b : ℕ) (s : List ℕ) where
   pub parts-none : (a : ℕ) → length s < a → partsFrom b s a ≡ []
+  unfolding partsFrom
   parts-none a h = rw (lt-leb a (length s) h)
 
   pub parts-at : (a : ℕ) → a ≤ length s → partsFrom b s a ≡ partsOf b (drop a s)
+  unfolding partsFrom
   parts-at a h = rw (le-leb a (length s) h)
+
+  pub parts-whole : partsOf b s ≡ partsFrom b s 0
+  parts-whole = sym (parts-at 0 (omega arith))
 
   step : (m a : ℕ) → a + m ≡ length s
       → let e = firstFrom (λ i. eqb (getD s i 0) b) a m in partsOf b (drop a s) ≡ part s a e ∷ partsFrom b s (e + 1)
@@ -107,36 +112,32 @@ module _ (b : ℕ) (s : List ℕ) where
   unfolding findFrom
   parts-step a h = parts-at a h ∙ step (length s - a) a (omega arith)
 
--- The field at a place is the first of the fields from there on. What is read of it is what it spells, and the place that is
--- handed on begins the others; nothing is read where there is no field, or it is not of the form.
-module _ {A : Type 0} (read : List ℕ → Option A) (s : List ℕ) (a : ℕ) where
-  pub field-first : (p : List ℕ) (ps : List (List ℕ)) → partsFrom tabByte s a ≡ p ∷ ps
-      → (fieldAs read s a ≡ Option·map (λ v. record { value = v; next = findFrom tabByte s a + 1 }) (read p)) × (partsFrom tabByte s (findFrom tabByte s a + 1) ≡ ps)
-  unfolding fieldAs
-  field-first p ps e = go (decLe a (length s))
-    where
-      go : Dec (a ≤ length s)
-          → (fieldAs read s a ≡ Option·map (λ v. record { value = v; next = findFrom tabByte s a + 1 }) (read p)) × (partsFrom tabByte s (findFrom tabByte s a + 1) ≡ ps)
-      go (yes h) =
-          let q : part s a (findFrom tabByte s a) ∷ partsFrom tabByte s (findFrom tabByte s a + 1) ≡ p ∷ ps = sym (parts-step tabByte s a h) ∙ e in
-          let first : part s a (findFrom tabByte s a) ≡ p = cc in
-          let others : partsFrom tabByte s (findFrom tabByte s a + 1) ≡ ps = cc in
-          (rw (le-leb a (length s) h, first), others)
-      go (no g) =
-          let q : _≡_ {A = List (List ℕ)} [] (p ∷ ps) = sym (parts-none tabByte s a (omega arith)) ∙ e in
-          let y : _≡_ {A = ℕ} 0 1 = cc in
-          absurd (omega arith)
+-- The field at a place is the first of those from there on, and the place that is handed on begins the others: a walk by places
+-- reads what a walk over the list of fields reads.
+abbrev onward : {A : Type 0} → List ℕ → Field A → A × List (List ℕ)
+onward s f = (f .value, partsFrom tabByte s (f .next))
 
-  pub field-past : partsFrom tabByte s a ≡ [] → fieldAs read s a ≡ none
+module _ {A : Type 0} (read : List ℕ → Option A) (s : List ℕ) (a : ℕ) where
+  field-walk : Option·map (onward s) (fieldAs read s a) ≡ firstAs read (partsFrom tabByte s a)
   unfolding fieldAs
-  field-past e = go (decLe a (length s))
+  field-walk = go (decLe a (length s))
     where
-      go : Dec (a ≤ length s) → fieldAs read s a ≡ none
+      same : (o : Option A) (k : ℕ)
+          → Option·map (onward s) (Option·map (λ v. record { value = v; next = k }) o)
+          ≡ Option·map (λ v. (v, partsFrom tabByte s k)) o
+      same none k = refl
+      same (some v) k = refl
+
+      go : Dec (a ≤ length s) → Option·map (onward s) (fieldAs read s a) ≡ firstAs read (partsFrom tabByte s a)
       go (yes h) =
-          let q : part s a (findFrom tabByte s a) ∷ partsFrom tabByte s (findFrom tabByte s a + 1) ≡ [] = sym (parts-step tabByte s a h) ∙ e in
-          let y : _≡_ {A = ℕ} 0 1 = cc in
-          absurd (omega arith)
-      go (no g) = rw (lt-leb a (length s) (omega arith))
+          rw (parts-step tabByte s a h, le-leb a (length s) h) (same (read (part s a (findFrom tabByte s a))) (findFrom tabByte s a + 1))
+      go (no g) = rw (parts-none tabByte s a (omega arith), lt-leb a (length s) (omega arith))
+
+  pub field-read : (v : A) (next : ℕ) → some (record { value = v; next = next }) ≡ fieldAs read s a → firstAs read (partsFrom tabByte s a) ≡ some (v, partsFrom tabByte s next)
+  field-read v next e = sym field-walk ∙ sym (ap (Option·map (onward s)) e)
+
+  pub field-refused : none ≡ fieldAs read s a → firstAs read (partsFrom tabByte s a) ≡ none
+  field-refused e = sym field-walk ∙ sym (ap (Option·map (onward s)) e)
 
 module _ (s : List ℕ) (a : ℕ) (h : a ≤ length s) where
   -- A line where an LF is found; else what is left is no line.

@@ -57,8 +57,14 @@ abbrev pub part : List ℕ → ℕ → ℕ → List ℕ
 part s a e = take (e - a) (drop a s)
 
 -- The parts that begin at a and behind it. A place past the end has none.
-abbrev pub partsFrom : ℕ → List ℕ → ℕ → List (List ℕ)
+unfoldable pub partsFrom : ℕ → List ℕ → ℕ → List (List ℕ)
+unfolding partsOf
 partsFrom b s a = cond (leb a (length s)) (partsOf b (drop a s)) []
+
+-- The first of some fields, read, with the others; none where there is no field, or it is not of the form.
+abbrev pub firstAs : {A : Type 0} → (List ℕ → Option A) → List (List ℕ) → Option (A × List (List ℕ))
+firstAs read [] = none
+firstAs read (p ∷ ps) = Option·map (λ v. (v, ps)) (read p)
 
 -- The lines from a on, and what stands behind them.
 abbrev pub linesFrom : List ℕ → ℕ → List (List ℕ)

@@ -1,3 +1,4 @@
--- What the proofs of the functions cite, and what a chain of appends leaves.
+-- What the proofs of the functions cite, and how a line is put together.
 pub mod AppendLaws
 pub mod DigitsLaws
+pub mod LineLaws

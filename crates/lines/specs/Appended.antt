@@ -4,7 +4,7 @@
 use mathlib.Core.Path.{_≡_}
 use mathlib.Core.Bool.{Bool, cond}
 use mathlib.Core.List.{List, _++_}
-use Prim.Native.Nat.{ℕ, _+_}
+use Prim.Native.Nat.{ℕ, _+_, _≤_, _<_}
 use lib.Dec.{leb}
 use lib.ListN.{length, take, drop}
 
@@ -22,3 +22,10 @@ behindText buffer at text = cond (fits buffer at text) (at + length text) (lengt
 pub record Appended (buffer : List ℕ) (at : ℕ) (text after : List ℕ) (next : ℕ) : Type 0 where
   pub place : next ≡ behindText buffer at text
   pub bytes : after ≡ written buffer at text
+
+-- A line put together by appends from the start of a buffer. Where it fits, it stands there, the rest is as it was, and `at` is the
+-- place behind it; where it does not, `at` lies past the end.
+pub record Line (buffer text after : List ℕ) (at : ℕ) : Type 0 where
+  pub long : length after ≡ length buffer
+  pub fitted : length text ≤ length buffer → (at ≡ length text) × (after ≡ text ++ drop (length text) buffer)
+  pub full : length buffer < length text → length buffer < at

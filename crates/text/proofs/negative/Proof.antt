@@ -9,7 +9,7 @@ returns-3 : tie.Need-returns-3
 returns-3 c =
     let e = c .before .before in
     let m = e .before .before .m in
-    rw (m .given .1) (down-is (m .given .0 .0) _ (e .if1 .left) (omega arith) (c .below-zero .ensures))
+    rw (m .given .1) (down-is (m .given .0 .0) _ (λ z. omega (arith, e .if1 .left)) (omega arith) (c .below-zero .ensures))
 
 returns-4 : tie.Need-returns-4
 returns-4 c = let m = c .before .before .before .m in rw (m .given .1) (down-over (m .given .0 .0) (omega arith))
