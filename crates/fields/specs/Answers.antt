@@ -1,4 +1,5 @@
--- What the answers of this crate say: what a field holds, with the place of the next; or that it holds nothing of the form.
+-- What the answers of this crate say (01, "Report program"): what a field holds, with the place of the next, or that it holds
+-- nothing of the form.
 use mathlib.Core.Option.{Option, none, some}
 use Prim.Native.Nat.{ℕ}
 use lib.Ieee.{Float}

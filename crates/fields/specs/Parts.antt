@@ -29,6 +29,11 @@ partsOf b (c ∷ s) = cond (eqb c b) ([] ∷ partsOf b s) (onFirst c (partsOf b 
 abbrev pub fieldsOf : List ℕ → List (List ℕ)
 fieldsOf s = partsOf tabByte s
 
+-- The first of some fields, read, with the others; none where there is no field, or it is not of the form.
+abbrev pub firstAs : {A : Type 0} → (List ℕ → Option A) → List (List ℕ) → Option (A × List (List ℕ))
+firstAs read [] = none
+firstAs read (p ∷ ps) = Option·map (λ v. (v, ps)) (read p)
+
 -- All but the last of some parts.
 unfoldable pub ended : List (List ℕ) → List (List ℕ)
 ended [] = []
@@ -60,11 +65,6 @@ part s a e = take (e - a) (drop a s)
 unfoldable pub partsFrom : ℕ → List ℕ → ℕ → List (List ℕ)
 unfolding partsOf
 partsFrom b s a = cond (leb a (length s)) (partsOf b (drop a s)) []
-
--- The first of some fields, read, with the others; none where there is no field, or it is not of the form.
-abbrev pub firstAs : {A : Type 0} → (List ℕ → Option A) → List (List ℕ) → Option (A × List (List ℕ))
-firstAs read [] = none
-firstAs read (p ∷ ps) = Option·map (λ v. (v, ps)) (read p)
 
 -- The lines from a on, and what stands behind them.
 abbrev pub linesFrom : List ℕ → ℕ → List (List ℕ)

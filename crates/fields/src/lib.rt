@@ -33,7 +33,7 @@ pub enum LetterField {
     Bad,
 }
 
-// The first place from `from` on that holds the byte, else the length.
+// The first place from `from` on that holds the byte, else the length, or `from` where that is more.
 pub fn find(s: &[u8], from: usize, byte: u8) -> usize
     ensures { λ r. ⌜ r ≡ findFrom byte (now (s .entry)) from ⌝ }
 {
@@ -55,6 +55,7 @@ fn field_end(s: &[u8], from: usize) -> usize
     find(s, from, b'\t')
 }
 
+// A field that is an unsigned decimal, a signed one, a double.
 pub fn decimal_at(s: &[u8], from: usize) -> DecimalField
     ensures { λ r. ⌜ saidDecimalField r ≡ fieldAs decimalOf (now (s .entry)) from ⌝ }
 {

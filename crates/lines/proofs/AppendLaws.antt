@@ -7,10 +7,10 @@ use native.Mathlib.Decide.{decLe}
 use lib.ListN.{length, take, drop, length-append, length-take, length-drop}
 use lib.Seq.{take-at, drop-at}
 use borrow.Author.Tests.{le-leb, lt-leb}
-use Rattle.lines.specs.Appended.{Appended}
+use Rattle.lines.specs.Appended.{overwritten, Appended}
 
 module _ (buffer : List ℕ) (at : ℕ) (text : List ℕ) where
-  pub append-is : at + length text ≤ length buffer → (after : List ℕ) → after ≡ take at buffer ++ text ++ drop (at + length text) buffer
+  pub append-is : at + length text ≤ length buffer → (after : List ℕ) → after ≡ overwritten buffer at text
       → Appended buffer at text after (at + length text)
   append-is h after e =
       let t = le-leb (at + length text) (length buffer) h in
@@ -24,7 +24,7 @@ module _ (buffer : List ℕ) (at : ℕ) (text : List ℕ) where
     pub append-place : at + length text ≤ length buffer → next ≡ at + length text
     append-place h = rw (le-leb (at + length text) (length buffer) h) at (a .place)
 
-    pub append-bytes : at + length text ≤ length buffer → after ≡ take at buffer ++ text ++ drop (at + length text) buffer
+    pub append-bytes : at + length text ≤ length buffer → after ≡ overwritten buffer at text
     append-bytes h = rw (le-leb (at + length text) (length buffer) h) at (a .bytes)
 
     pub append-full : length buffer < at + length text → (next ≡ length buffer + 1) × (after ≡ buffer)

@@ -1,4 +1,4 @@
--- Laws of a line: it begins empty, and an append makes it longer. No test is needed on the way.
+-- Laws of a line: it begins empty, an append makes it longer, and where it fits it can be read. No test is needed on the way.
 use mathlib.Core.Path.{_≡_, refl, sym, ap, _∙_}
 use mathlib.Core.List.{List, [], _++_}
 use Prim.Native.Nat.{ℕ, _+_, _≤_, _<_}
@@ -12,6 +12,12 @@ use Rattle.lines.proofs.AppendLaws.{append-place, append-bytes, append-
 pub line-start : (buffer : List ℕ) → Line buffer [] buffer 0
 line-start buffer = record { long = refl; fitted = λ h. (refl, refl); full = λ h. absurd (omega arith) }
 
+-- A line that fits is what stands in front of the place behind it.
+pub line-holds : {buffer text after : List ℕ} {at : ℕ} → Line buffer text after at → length text ≤ length buffer → take at after ≡ text
+line-holds {buffer} {text} l h =
+    let f = l .fitted h in
+    rw (f .0, f .1) (take-at text (drop (length text) buffer) (length text) refl)
+
 module _ {buffer text after : List ℕ} {at : ℕ} {more later : List ℕ} {next : ℕ} (l : Line buffer text after at) (a : Appended after at more later next) where
   longer : length (text ++ more) ≡ length text + length more
   longer = length-append text more
@@ -21,7 +27,7 @@ module _ {buffer text after : List ℕ} {at : ℕ} {more later : List ℕ} {next
       let f = l .fitted (omega (arith, longer)) in
       let room : at + length more ≤ length after = omega (arith, l .long, f .0, longer) in
       let size : at + length more ≡ length (text ++ more) = omega (arith, f .0, longer) in
-      let front : take at after ≡ text = rw (f .0, f .1) (take-at text (drop (length text) buffer) (length text) refl) in
+      let front : take at after ≡ text = line-holds l (omega (arith, longer)) in
       let back : drop (at + length more) after ≡ drop (length (text ++ more)) buffer =
       sym (drop-drop (length more) at after)
       ∙ ap (drop (length more)) (rw (f .0, f .1) (drop-at text (drop (length text) buffer) (length text) refl))

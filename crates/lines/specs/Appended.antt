@@ -11,9 +11,13 @@ use lib.ListN.{length, take, drop}
 abbrev pub fits : List ℕ → ℕ → List ℕ → Bool
 fits buffer at text = leb (at + length text) (length buffer)
 
--- The buffer with the text at a place, and the place behind the text.
+-- The buffer with the text at a place, the bytes in front and behind as they were.
+abbrev pub overwritten : List ℕ → ℕ → List ℕ → List ℕ
+overwritten buffer at text = take at buffer ++ text ++ drop (at + length text) buffer
+
+-- The same where it fits; and the place behind the text.
 abbrev pub written : List ℕ → ℕ → List ℕ → List ℕ
-written buffer at text = cond (fits buffer at text) (take at buffer ++ text ++ drop (at + length text) buffer) buffer
+written buffer at text = cond (fits buffer at text) (overwritten buffer at text) buffer
 
 abbrev pub behindText : List ℕ → ℕ → List ℕ → ℕ
 behindText buffer at text = cond (fits buffer at text) (at + length text) (length buffer + 1)

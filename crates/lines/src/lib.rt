@@ -2,11 +2,11 @@
 // Each function puts a text at a place and answers the place behind it. A text that does not fit is not written; the place
 // then lies past the buffer's end, where nothing fits, so a caller tests it once, at the end of the line.
 ghost use mathlib.Core.Path.{_≡_};
-ghost use mathlib.Core.List.{[], _∷_, _++_};
+ghost use mathlib.Core.List.{[], _∷_};
 ghost use Prim.Native.Nat.{_+_, _≤_};
-ghost use lib.ListN.{length, take, drop};
+ghost use lib.ListN.{length};
 ghost use Rattle.text.specs.Numbers.{decimalText};
-ghost use Rattle.lines.specs.Appended.{Appended};
+ghost use Rattle.lines.specs.Appended.{overwritten, Appended};
 
 pub fn append(out: &mut [u8], at: usize, src: &[u8]) -> usize
     ensures { λ r. ⌜ Appended (now (out .entry)) at (now (src .entry)) (now (out .exit)) r ⌝ }
@@ -37,9 +37,10 @@ pub fn append_decimal(out: &mut [u8], at: usize, n: u64) -> usize
     append(out, at, &digits[0..k])
 }
 
+// Over what stands there, which is long enough.
 fn copy(out: &mut [u8], at: usize, src: &[u8])
     requires { ⌜ at + length (now src) ≤ length (now out) ⌝ }
-    ensures { λ _. ⌜ now (out .exit) ≡ take at (now (out .entry)) ++ now (src .entry) ++ drop (at + length (now (src .entry))) (now (out .entry)) ⌝ }
+    ensures { λ _. ⌜ now (out .exit) ≡ overwritten (now (out .entry)) at (now (src .entry)) ⌝ }
 {
     let mut i = 0;
     while i < src.len() {

@@ -1,4 +1,4 @@
--- What the answers of this crate say: a number, a double or a letter; or that the bytes spell none.
+-- What the answers of this crate say (01, "Report program"): a number, a double or a letter, or that the bytes spell none.
 use mathlib.Core.Option.{Option, none, some}
 use Prim.Native.Nat.{ℕ}
 use lib.Ieee.{Float}

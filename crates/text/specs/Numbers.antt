@@ -1,6 +1,6 @@
--- What bytes spell (01, "Report program"): decimals without a leading zero, unsigned and signed within 64 bits, and the 16
--- upper-case hex digits of a double. `none` says that the bytes spell no such number. Then the texts that spell them;
--- that the two ways fit each other is proofs/NumbersMeaning.antt.
+-- What bytes spell (01, "Report program"): decimals without a leading zero, unsigned and signed within 64 bits, the 16
+-- upper-case hex digits of a double, and one letter. `none` says that the bytes spell nothing of the kind. Then the texts that
+-- spell numbers; that the two ways fit each other is proofs/NumbersMeaning.antt.
 use mathlib.Core.Bool.{Bool, cond, _&&_, _||_, not}
 use mathlib.Core.List.{List, [], _∷_, _++_}
 use mathlib.Core.Option.{Option, none, some, Option·map}
@@ -59,6 +59,12 @@ signedOf s = cond (eqb (getD s 0 0) 45) (downward (decimalOf (drop 1 s))) (upwar
 unfoldable pub doubleOf : List ℕ → Option Float
 doubleOf s = cond (eqb (length s) 16) (Option·map (ofBits binary64) (wordOf 16 s)) none
 
+-- A letter is one byte, whichever it is.
+abbrev pub letterOf : List ℕ → Option ℕ
+letterOf [] = none
+letterOf (c ∷ []) = some c
+letterOf (c ∷ d ∷ s) = none
+
 -- The other way: a digit's byte, the last k digits of n in a base, and the texts that are written for numbers.
 abbrev pub glyph : ℕ → ℕ
 glyph d = cond (ltb d 10) (48 + d) (55 + d)
@@ -67,7 +73,7 @@ unfoldable pub lastDigits : ℕ → ℕ → ℕ → List ℕ
 lastDigits base zero n = []
 lastDigits base (suc k) n = lastDigits base k (n / base) ++ (glyph (n % base) ∷ [])
 
--- How many decimal digits hold n, and one at least. 20 hold every number of 64 bits.
+-- How many decimal digits hold n, and one at least. 20 hold every number of 64 bits; more are not looked at.
 unfoldable pub digitCount : ℕ → ℕ
 digitCount n = firstFrom (λ k. ltb n (10 ^ k)) 1 20
 
@@ -77,9 +83,3 @@ decimalText n = lastDigits 10 (digitCount n) n
 abbrev pub signedText : ℤ → List ℕ
 signedText (pos n) = decimalText n
 signedText (negsuc k) = 45 ∷ decimalText (suc k)
-
--- The one byte of a field that is a letter.
-abbrev pub letterOf : List ℕ → Option ℕ
-letterOf [] = none
-letterOf (c ∷ []) = some c
-letterOf (c ∷ d ∷ s) = none

@@ -1,10 +1,9 @@
 // A slice of bytes as one number (01, "Report program"). The Rust has nothing like it.
 // Every function answers on any bytes; what it answers is what they spell, and `Bad` says that they spell nothing.
 ghost use mathlib.Core.Path.{_≡_};
-ghost use mathlib.Core.Bool.{true};
 ghost use Prim.Native.Nat.{_<_, _≤_, _^_};
 ghost use lib.Ieee.{binary64, ofBits};
-ghost use lib.IntN.{pos, negsuc};
+ghost use lib.IntN.{negsuc};
 ghost use Rattle.text.specs.Answers.{saidDecimal, saidSigned, saidDouble, saidLetter};
 ghost use Rattle.text.specs.Numbers.{digitOf, below, wordOf, canonical, decimalOf, upward, downward, signedOf, doubleOf, letterOf};
 
@@ -67,6 +66,7 @@ pub fn read_double(s: &[u8]) -> Double
     }
 }
 
+// A field of one byte.
 pub fn read_letter(s: &[u8]) -> Letter
     ensures { λ r. ⌜ saidLetter r ≡ letterOf (now (s .entry)) ⌝ }
 {
@@ -77,6 +77,7 @@ pub fn read_letter(s: &[u8]) -> Letter
     }
 }
 
+// Some byte, and no 0 in front of another.
 fn is_canonical(s: &[u8]) -> bool
     ensures { λ r. ⌜ r ≡ canonical (now (s .entry)) ⌝ }
 {
@@ -89,7 +90,7 @@ fn is_canonical(s: &[u8]) -> bool
     s[0] != b'0'
 }
 
-// The number that the digits spell, if it has 64 bits.
+// The number that the digits spell, if it has 64 bits. Whether a digit more would be too much is asked before the product.
 fn word(s: &[u8], base: u64) -> Decimal
     requires { ⌜ (0 < base) × (base ≤ 16) ⌝ }
     ensures { λ r. ⌜ saidDecimal r ≡ wordOf base (now (s .entry)) ⌝ }
@@ -125,6 +126,7 @@ fn digit(byte: u8, base: u64) -> Decimal
     }
 }
 
+// 0 to 9, and A to F for ten to fifteen: A is 65.
 fn any_digit(byte: u8) -> Decimal
     ensures { λ r. ⌜ saidDecimal r ≡ digitOf byte ⌝ }
 {
@@ -147,6 +149,7 @@ fn wide(x: u8) -> u64
     x as u64
 }
 
+// The number itself, and its opposite, where 64 bits hold it.
 fn positive(m: Decimal) -> Signed
     ensures { λ r. ⌜ saidSigned r ≡ upward (saidDecimal m) ⌝ }
 {
