@@ -1,6 +1,8 @@
 -- Each way out is the one that `doubleOf` takes.
 use mathlib.Core.Path.{ap}
 use mathlib.Core.Option.{some}
+use native.Mathlib.Omega.{arith}
+use lib.ListN.{length}
 use borrow.Author.Needs.{needs}
 use borrow.Author.Tests.{eq-eqb, ne-eqb}
 use Rattle.text.specs.Numbers.{doubleOf}
@@ -12,13 +14,15 @@ unfolding doubleOf
 returns c =
     let b = c .before .before in
     let w = b .before .before in
-    rw (eq-eqb _ _ (w .before .if1 .taken), ← w .word .ensures, b .bits .given .1) (ap some (c .of-bits .ensures))
+    let n = length (w .before .before .before .args .s .now) in
+    rw (eq-eqb n 16 (omega arith), ← w .word .ensures, b .bits .given .1) (ap some (c .of-bits .ensures))
 
 returns-2 : tie.Need-returns-2
 unfolding doubleOf
 returns-2 c =
     let w = c .before .before in
-    rw (eq-eqb _ _ (w .before .if1 .taken), ← w .word .ensures, c .enum-told .given .1)
+    let n = length (w .before .before .before .args .s .now) in
+    rw (eq-eqb n 16 (omega arith), ← w .word .ensures, c .enum-told .given .1)
 
 returns-3 : tie.Need-returns-3
 unfolding doubleOf
