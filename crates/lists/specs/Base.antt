@@ -30,6 +30,10 @@ unfoldable pub any : (ℕ → Bool) → ℕ → Bool
 any p zero = false
 any p (suc n) = any p n || p n
 
+-- Does one of the numbers from b up to e pass?
+abbrev pub anyFrom : (ℕ → Bool) → ℕ → ℕ → Bool
+anyFrom p b e = any (λ m. p (b + m)) (e - b)
+
 -- The least number from b on that passes, of m numbers looked at; b + m where none does.
 unfoldable pub firstFrom : (ℕ → Bool) → ℕ → ℕ → ℕ
 firstFrom p b zero = b

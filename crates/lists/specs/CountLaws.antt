@@ -1,8 +1,8 @@
 -- Laws of `count` and `tally`: bounds, what changes nothing, ranges, and that a tally of a made list is a count.
 use mathlib.Core.Path.{_≡_, refl, sym, ap, _∙_}
-use mathlib.Core.Bool.{Bool, true, false, _||_}
+use mathlib.Core.Bool.{Bool, true, false, not, _||_}
 use mathlib.Core.List.{List, [], _∷_, _++_}
-use Prim.Native.Nat.{ℕ, zero, suc, _+_, _≤_, _<_}
+use Prim.Native.Nat.{ℕ, zero, suc, _+_, _-_, _≤_, _<_}
 use native.Mathlib.Numerals.{add-one}
 use native.Mathlib.Omega.{arith}
 use lib.Dec.{eqb}
@@ -51,6 +51,16 @@ count-some p (suc n) i h e = go (p n) refl (count-some p n i)
       where
         other : (i ≡ n) → ⊥
         other z = let w : _≡_ {A = Bool} true false = sym e ∙ ap p z ∙ q in let y : _≡_ {A = ℕ} 0 1 = cc in omega arith
+
+-- The numbers that fail are the others.
+pub count-not : (p : ℕ → Bool) (n : ℕ) → count (λ i. not (p i)) n ≡ n - count p n
+unfolding count
+count-not p zero = omega arith
+count-not p (suc n) = rw (count-not p n) (go (p n))
+  where
+    go : (b : Bool) → n - count p n + bit (not b) ≡ suc n - (count p n + bit b)
+    go true = omega arith
+    go false = omega (arith, count-le p n)
 
 -- Numbers that pass one or the other of two tests of which no number passes both.
 pub count-or : (p q : ℕ → Bool) (n : ℕ) → ((i : ℕ) → i < n → p i ≡ true → q i ≡ false) → count (λ i. p i || q i) n ≡ count p n + count q n

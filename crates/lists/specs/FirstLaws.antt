@@ -96,3 +96,11 @@ module _ (p : ℕ → Bool) where
   pub first-end : (n i : ℕ) → n ≤ i → firstFrom p i (n - i) ≡ i
   unfolding firstFrom
   first-end n i h = let z : n - i ≡ 0 = omega arith in rw z
+
+-- Two tests that agree on the numbers looked at find the same.
+pub firstFrom-ext :
+    (p q : ℕ → Bool) (b m : ℕ) → ((i : ℕ) → b ≤ i → i < b + m → p i ≡ q i) → firstFrom p b m ≡ firstFrom q b m
+unfolding firstFrom
+firstFrom-ext p q b zero h = refl
+firstFrom-ext p q b (suc m) h =
+    rw (h b (omega arith) (omega arith), firstFrom-ext p q (suc b) m (λ i x y. h i (omega arith) (omega arith)))

@@ -7,4 +7,5 @@ pub mod IntegerLaws
 pub mod OverLaws
 pub mod SearchLaws
 pub mod SignedLaws
+pub mod StoreLaws
 pub mod TabLaws

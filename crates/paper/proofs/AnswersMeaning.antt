@@ -1,5 +1,5 @@
 -- The answers in the paper's terms are one to one: two refusals with the same number that carry the same are the same
--- refusal, and two answers that say the same are the same answer.
+-- refusal, and two answers that say the same are the same answer. And each result is said as it is.
 use mathlib.Core.Path.{_≡_, refl, sym, ap, ap₂, _∙_}
 use mathlib.Core.Bool.{Bool, true, false, cond}
 use Prim.Native.Nat.{ℕ}
@@ -28,6 +28,8 @@ use Rattle.paper.specs.declared.refusal.Refusal.the-variants.{
   NotFinite,
 }
 use Rattle.paper.specs.declared.answers.Counts.{Counts}
+use Rattle.paper.specs.declared.answers.OverlapCount.{OverlapCount}
+use Rattle.paper.specs.declared.numbers.SplitNumber.{SplitNumber}
 use Rattle.paper.specs.declared.answers.Marked.{Marked}
 use Rattle.paper.specs.declared.answers.Written.{Written}
 use Rattle.paper.specs.declared.answers.Counted.{Counted}
@@ -156,3 +158,15 @@ saidNext-one Next.Last (Next.Refused r) h = apart h
 saidNext-one (Next.Refused q) Next.After h = apart (sym h)
 saidNext-one (Next.Refused q) Next.Last h = apart (sym h)
 saidNext-one (Next.Refused q) (Next.Refused r) h = ap Next.Refused (saidRefusal-one q r h)
+
+-- One to one would leave room to number from 1, or to say `After` for `Last`.
+pub record Results (c : Counts) (n : ℕ) (s : SplitNumber) (o : OverlapCount) : Type 0 where
+  pub marked : saidMarked (Marked.Done c) ≡ done c
+  pub counted : saidCounted (Counted.Done n) ≡ done n
+  pub placed : saidPlaced (Placed.Done s) ≡ done (s .0)
+  pub overlaps : saidOverlaps (Overlaps.Done o) ≡ done (o .count)
+  pub after : saidNext Next.After ≡ done true
+  pub last : saidNext Next.Last ≡ done false
+
+pub said-results : (c : Counts) (n : ℕ) (s : SplitNumber) (o : OverlapCount) → Results c n s o
+said-results c n s o = record { marked = refl; counted = refl; placed = refl; overlaps = refl; after = refl; last = refl }

@@ -1,12 +1,11 @@
 -- What blocks mean (01, "Purge, embargo, marks"): they are not empty, hold test rows only, come one behind the other with a
 -- row between them that is not tested, and hold every test row. That they are maximal is the last two together.
-use mathlib.Core.Path.{_≡_, refl, sym, ap, _∙_}
-use mathlib.Core.Bool.{Bool, true, false, _&&_, not}
-use Prim.Native.Nat.{ℕ, zero, suc, _+_, _-_, _≤_, _<_}
+use mathlib.Core.Path.{_≡_, refl, _∙_}
+use mathlib.Core.Bool.{Bool, true, false, not}
+use Prim.Native.Nat.{ℕ, zero, suc, _-_, _≤_, _<_}
 use native.Mathlib.Omega.{arith}
 use native.Mathlib.Decide.{decLt}
 use borrow.Author.Tests.{not-true, not-false}
-use Rattle.lists.specs.Base.{firstFrom}
 use Rattle.lists.specs.AnyLaws.{never, both}
 use Rattle.lists.specs.FirstLaws.{firstFrom-ge, firstFrom-le, firstFrom-is, firstFrom-before, firstFrom-at, firstFrom-none}
 use Rattle.paper.specs.Folds.{Rows}
@@ -18,6 +17,16 @@ module _ (n : ℕ) (t : Rows) where
   unfolding begins
   begins-test zero h = h
   begins-test (suc b) h = both {a = t (suc b)} h .0
+
+  -- The row before it is not tested. These two settle it.
+  pub begins-after : (b : ℕ) → begins t (suc b) ≡ true → t b ≡ false
+  unfolding begins
+  begins-after b h = not-true (t b) (both {a = t (suc b)} h .1)
+
+  pub begins-is : (b : ℕ) → t b ≡ true → ((c : ℕ) → suc c ≡ b → t c ≡ false) → begins t b ≡ true
+  unfolding begins
+  begins-is zero h f = h
+  begins-is (suc b) h f = rw (h, f b refl)
 
   -- The row past a block lies within the rows, or is their end.
   pub past-le : (b : ℕ) → b ≤ n → past n t b ≤ n
@@ -52,11 +61,10 @@ module _ (n : ℕ) (t : Rows) where
 
   -- Blocks ascend, are disjoint, and are not adjacent: the row past the earlier one lies before the later one begins.
   pub block-apart : (b c : ℕ) → b < c → c < n → begins t c ≡ true → past n t b < c
-  unfolding begins
   block-apart b (suc c) h k e = go (decLt c (past n t b))
     where
       go : Dec (c < past n t b) → past n t b < suc c
-      go (yes l) = never (past-test b c (omega arith) l) (not-true (t c) (both {a = t (suc c)} e .1))
+      go (yes l) = never (past-test b c (omega arith) l) (begins-after c e)
       go (no g) = omega arith
 
   -- From a test row back to the row that begins its run.

@@ -54,8 +54,8 @@ Has chain numbers = (numbersOf chain ≡ numbers) × (partOf numbers tableOrder 
 
 -- Each call's numbers, whatever it is called with.
 module _
-    (starts ends testStarts testEnds : List ℤ) (st : Settings) (x : Float) (n N k m s p g a size step : ℕ) (marks room set train test : List ℕ)
-    (returns output : List Float)
+    (starts ends testStarts testEnds : List ℤ) (st : Settings) (x : Float) (n N k m s p g a size step room : ℕ) (marks set train test : List ℕ)
+    (returns : List Float)
   where
     pub record Chains : Type 0 where
       pub kfold-window : Has (kfoldChecks byWindow starts ends st s room marks) (12 ∷ 1 ∷ 10 ∷ 2 ∷ 3 ∷ 4 ∷ 5 ∷ 13 ∷ [])
@@ -70,7 +70,7 @@ module _
       pub naive : Has (naiveChecks n N s room) (2 ∷ 5 ∷ 13 ∷ [])
       pub overlap-count : Has (overlapChecks starts ends train test) (12 ∷ 9 ∷ [])
       pub train-times : Has (trainTimesChecks starts ends testStarts testEnds room) (12 ∷ 12 ∷ 5 ∷ [])
-      pub joining : Has (joiningChecks n N k p returns output) (1 ∷ 10 ∷ 2 ∷ 5 ∷ 6 ∷ 11 ∷ 8 ∷ 13 ∷ 18 ∷ 19 ∷ [])
+      pub joining : Has (joiningChecks n N k p returns room) (1 ∷ 10 ∷ 2 ∷ 5 ∷ 6 ∷ 11 ∷ 8 ∷ 13 ∷ 18 ∷ 19 ∷ [])
       pub numbers : Has (numbersChecks N k) (2 ∷ 6 ∷ 11 ∷ 8 ∷ [])
       pub split : Has (splitChecks N k s) (2 ∷ 6 ∷ 11 ∷ 8 ∷ 13 ∷ [])
       pub fold-set : Has (setChecks N k set) (2 ∷ 6 ∷ 11 ∷ 8 ∷ 13 ∷ [])
@@ -131,7 +131,10 @@ checked-first (b ∷ before) c behind a h e =
     let t = both {a = not (b .due)} h in
     rw (not-true (b .due) (t .0)) (checked-first before c behind a (t .1) e)
 
--- A refusal leaves lent memory as it was; 17 leaves the marks written.
+-- A result leaves its list written, and a refusal lent memory as it was; 17 leaves the marks written.
+pub lent-done : (A : Type 0) {B : Type 0} (a : A) (old new : List B) → lent (done a) old new ≡ new
+lent-done A a old new = refl
+
 pub lent-kept : (A : Type 0) {B : Type 0} (number : ℕ) (carried : Carried) (old new : List B) → (number ≡ 17 → ⊥) → lent {A = A} (refused number carried) old new ≡ old
 lent-kept A number carried old new h = rw (ne-eqb number 17 h)
 

@@ -7,13 +7,14 @@ use Prim.Native.Nat.{ℕ, _+_, _-_, _*_, _≤_, _<_}
 use lib.IntN.{ℤ}
 use lib.Ieee.{Float, nan}
 use lib.ListN.{length, getD}
+use Rattle.lists.specs.Base.{tally}
 use Rattle.paper.specs.declared.settings.Settings.{Settings}
 use Rattle.paper.specs.Spans.{Table, table, good}
 use Rattle.paper.specs.Width.{isFraction}
 use Rattle.paper.specs.Sets.{choose, tooMany, isSplit}
 use Rattle.paper.specs.Paths.{paths}
 use Rattle.paper.specs.Joining.{finite}
-use Rattle.paper.specs.Marks.{Rule}
+use Rattle.paper.specs.Marks.{Rule, byPair}
 use Rattle.paper.specs.Checks.{
   Check,
   tableChecks,
@@ -58,16 +59,17 @@ use Rattle.paper.proofs.RefusalsMeaning.{
   returnsLength-passes,
   notFinite-passes,
   outOfRange-passes,
+  emptyTrain-passes,
 }
 
 -- A table, a fraction, and a lent list of its length.
-pub record TableIn (starts ends : List ℤ) (x : Float) (room : List ℕ) : Type 0 where
+pub record TableIn (starts ends : List ℤ) (x : Float) (room : ℕ) : Type 0 where
   pub same : length starts ≡ length ends
   pub some : 1 ≤ length starts
   pub few : length starts ≤ 1048576
   pub fraction : isFraction x ≡ true
   pub in-order : (i : ℕ) → i < length starts → good (table starts ends) (table starts ends .span i) ≡ true
-  pub fits : length room ≡ length starts
+  pub fits : room ≡ length starts
 
 -- Two folds or more, none of them empty.
 pub record FoldsIn (N n : ℕ) : Type 0 where
@@ -84,7 +86,7 @@ pub record SetsIn (N k : ℕ) : Type 0 where
 -- ---- the groups that calls share, with what comes behind them
 
 pub table-in :
-    (starts ends : List ℤ) (st : Settings) (room : List ℕ) (rest : List Check) → Clear (tableChecks starts ends st room ++ rest) →
+    (starts ends : List ℤ) (st : Settings) (room : ℕ) (rest : List Check) → Clear (tableChecks starts ends st room ++ rest) →
     TableIn starts ends (st .embargo) room × FoldsIn (st .folds) (length starts) × Clear rest
 table-in starts ends st room rest h =
     let n = length starts in
@@ -108,7 +110,7 @@ sets-in N k rest h =
 
 -- ---- calls on rows
 
-module _ (r : Rule) (starts ends : List ℤ) (st : Settings) (room marks : List ℕ) where
+module _ (r : Rule) (starts ends : List ℤ) (st : Settings) (room : ℕ) (marks : List ℕ) where
   pub kfold-in :
       (s : ℕ) → Clear (kfoldChecks r starts ends st s room marks) →
       TableIn starts ends (st .embargo) room × FoldsIn (st .folds) (length starts) × (s < st .folds)
@@ -124,14 +126,14 @@ module _ (r : Rule) (starts ends : List ℤ) (st : Settings) (room marks : List 
       (t .0, t .1, u .0, noSuch-passes (choose (st .folds) k) s .shows (u .1 .0))
 
 pub walkForward-in :
-    (starts ends : List ℤ) (st : Settings) (m s : ℕ) (room : List ℕ) → Clear (walkForwardChecks starts ends st m s room) →
+    (starts ends : List ℤ) (st : Settings) (m s : ℕ) (room : ℕ) → Clear (walkForwardChecks starts ends st m s room) →
     TableIn starts ends (st .embargo) room × FoldsIn (st .folds) (length starts) × ((1 ≤ m) × (m < st .folds)) × (s < st .folds - m)
 walkForward-in starts ends st m s room h =
     let t = table-in starts ends st room (badMinimum (st .folds) m ∷ noSuch (st .folds - m) s ∷ []) h in
     (t .0, t .1, badMinimum-passes (st .folds) m .shows (t .2 .0), noSuch-passes (st .folds - m) s .shows (t .2 .1 .0))
 
 pub rolling-in :
-    (starts ends : List ℤ) (x : Float) (a size step s : ℕ) (room marks : List ℕ) →
+    (starts ends : List ℤ) (x : Float) (a size step s : ℕ) (room : ℕ) (marks : List ℕ) →
     Clear (rollingChecks starts ends x a size step s room marks) →
     TableIn starts ends x room × ((1 ≤ a) × (1 ≤ size) × (1 ≤ step)) × (a < length starts) × (a + s * step < length starts)
 rolling-in starts ends x a size step s room marks h =
@@ -149,8 +151,25 @@ rolling-in starts ends x a size step s room marks h =
       noSuch-passes n (a + s * step) .shows (h .1 .1 .1 .1 .1 .1 .1 .1 .0),
     )
 
+-- By the pair rule, and so in the rolling layout, a row trains: of the split's own marks, whatever the lent list held.
+module _ (starts ends : List ℤ) (room : ℕ) (marks : List ℕ) where
+  pub kfold-trains : (st : Settings) (s : ℕ) → Clear (kfoldChecks byPair starts ends st s room marks) → 1 ≤ tally 0 marks
+  kfold-trains st s h =
+      let t = table-in starts ends st room (noSuch (st .folds) s ∷ emptyTrain byPair marks) h in
+      emptyTrain-passes marks .shows (t .2 .1 .0)
+
+  pub cpcv-trains : (st : Settings) (k s : ℕ) → Clear (cpcvChecks byPair starts ends st k s room marks) → 1 ≤ tally 0 marks
+  cpcv-trains st k s h =
+      let last = noSuch (choose (st .folds) k) s ∷ emptyTrain byPair marks in
+      let t = table-in starts ends st room (combinationChecks (st .folds) k ++ last) h in
+      emptyTrain-passes marks .shows (sets-in (st .folds) k last (t .2) .1 .1 .0)
+
+  pub rolling-trains :
+      (x : Float) (a size step s : ℕ) → Clear (rollingChecks starts ends x a size step s room marks) → 1 ≤ tally 0 marks
+  rolling-trains x a size step s h = emptyTrain-passes marks .shows (h .1 .1 .1 .1 .1 .1 .1 .1 .1 .0)
+
 pub naive-in :
-    (n N s : ℕ) (room : List ℕ) → Clear (naiveChecks n N s room) → FoldsIn N n × (length room ≡ n) × (s < N)
+    (n N s : ℕ) (room : ℕ) → Clear (naiveChecks n N s room) → FoldsIn N n × (room ≡ n) × (s < N)
 naive-in n N s room h =
     let t = badFolds-passes N n .shows (h .0) in
     (record { two = t .0; most = t .1 }, wrongLength-passes room n .shows (h .1 .0), noSuch-passes N s .shows (h .1 .1 .0))
@@ -164,21 +183,21 @@ overlap-in starts ends train test h =
     (lengthsDiffer-passes starts ends .shows (h .0), outOfRange-passes (length starts) train test .shows (h .1 .0))
 
 pub trainTimes-in :
-    (starts ends testStarts testEnds : List ℤ) (room : List ℕ) → Clear (trainTimesChecks starts ends testStarts testEnds room) →
-    (length starts ≡ length ends) × (length testStarts ≡ length testEnds) × (length room ≡ length starts)
+    (starts ends testStarts testEnds : List ℤ) (room : ℕ) → Clear (trainTimesChecks starts ends testStarts testEnds room) →
+    (length starts ≡ length ends) × (length testStarts ≡ length testEnds) × (room ≡ length starts)
 trainTimes-in starts ends testStarts testEnds room h =
     (lengthsDiffer-passes starts ends .shows (h .0), lengthsDiffer-passes testStarts testEnds .shows (h .1 .0), wrongLength-passes room (length starts) .shows (h .1 .1 .0))
 
-pub record JoiningIn (n N k p : ℕ) (returns room : List Float) : Type 0 where
+pub record JoiningIn (n N k p : ℕ) (returns : List Float) (room : ℕ) : Type 0 where
   pub few : n ≤ 1048576
   pub folds : FoldsIn N n
-  pub fits : length room ≡ n
+  pub fits : room ≡ n
   pub sets : SetsIn N k
   pub path : p < paths N k
   pub long : length returns ≡ paths N k * n
   pub finites : (i : ℕ) → i < length returns → finite (getD returns i nan) ≡ true
 
-pub joining-in : (n N k p : ℕ) (returns room : List Float) → Clear (joiningChecks n N k p returns room) → JoiningIn n N k p returns room
+pub joining-in : (n N k p : ℕ) (returns : List Float) (room : ℕ) → Clear (joiningChecks n N k p returns room) → JoiningIn n N k p returns room
 joining-in n N k p returns room h =
     let t = badFolds-passes N n .shows (h .1 .1 .0) in
     let u = sets-in N k (noSuch (paths N k) p ∷ returnsLength returns n N k ∷ notFinite returns ∷ []) (h .1 .1 .1 .1) in
@@ -214,7 +233,7 @@ module _ (N k : ℕ) where
       (fewFolds-passes N .shows (h .0), u .0, noSuch-passes (paths N k) p .shows (u .1 .0), noSuch-passes N g .shows (u .1 .1 .0))
 
   pub wholePath-in :
-      (p : ℕ) (room : List ℕ) → Clear (wholePathChecks N k p room) → (2 ≤ N) × (length room ≡ N) × SetsIn N k × (p < paths N k)
+      (p : ℕ) (room : ℕ) → Clear (wholePathChecks N k p room) → (2 ≤ N) × (room ≡ N) × SetsIn N k × (p < paths N k)
   wholePath-in p room h =
       let u = sets-in N k (noSuch (paths N k) p ∷ []) (h .1 .1) in
       (fewFolds-passes N .shows (h .0), wrongLength-passes room N .shows (h .1 .0), u .0, noSuch-passes (paths N k) p .shows (u .1 .0))

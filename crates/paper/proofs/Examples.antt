@@ -27,10 +27,10 @@ abbrev sixMarks : ℕ → List ℕ
 sixMarks s = marksOf byWindow six (cpcv (evenBorders 6 3) 3 1 s (widthOf (ofBits binary64 0x3FB999999999999A) 6))
 
 -- Two tables whose starts decrease: (10,12) (0,2) (20,21) (1,3), and (0,1) (10,11) (5,6) (20,21).
-abbrev late : Table
+abbrev pub late : Table
 late = table (pos 10 ∷ pos 0 ∷ pos 20 ∷ pos 1 ∷ []) (pos 12 ∷ pos 2 ∷ pos 21 ∷ pos 3 ∷ [])
 
-abbrev between : Table
+abbrev pub between : Table
 between = table (pos 0 ∷ pos 10 ∷ pos 5 ∷ pos 20 ∷ []) (pos 1 ∷ pos 11 ∷ pos 6 ∷ pos 21 ∷ [])
 
 -- Their first split of two folds, fraction 0, by either rule.

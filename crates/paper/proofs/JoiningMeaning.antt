@@ -2,29 +2,31 @@
 -- split, and within a split row after row, a place for each row that the split tests.
 use mathlib.Core.Path.{_≡_, refl}
 use mathlib.Core.Bool.{Bool, true, false}
-use mathlib.Core.List.{[], _∷_}
-use Prim.Native.Nat.{ℕ, _+_}
+use mathlib.Core.List.{List, [], _∷_}
+use Prim.Native.Nat.{ℕ, _+_, _<_}
 use native.Mathlib.Numerals.{add-one}
 use native.Mathlib.Omega.{arith}
-use lib.Ieee.{binary64, ofBits}
+use lib.ListN.{length, getD}
+use lib.Ieee.{Float, nan, binary64, ofBits}
 use Rattle.lists.specs.Base.{bit, tab, count, sum, firstFrom}
 use Rattle.lists.specs.CountLaws.{count-more}
-use Rattle.paper.specs.Folds.{Rows, folds, evenBorder, evenBorders}
-use Rattle.paper.specs.Joining.{placeOf, placeOnPath, finite}
+use Rattle.lists.specs.TabLaws.{length-tab, getD-tab}
+use Rattle.paper.specs.Folds.{Rows, border, folds, evenBorder, evenBorders}
+use Rattle.paper.specs.Joining.{returnPlace, placeOnPath, joined, finite}
 use Rattle.paper.specs.Sets.{listing, each}
 use Rattle.paper.specs.Paths.{holds, testsOf}
 
 module _ (tests : ℕ → Rows) (n : ℕ) where
-  pub place-first : placeOf tests n 0 0 ≡ 0
+  pub place-first : returnPlace tests n 0 0 ≡ 0
   unfolding sum count
   place-first = refl
 
   -- A row that the split tests takes one place.
-  pub place-row : (i r : ℕ) → placeOf tests n i (r + 1) ≡ placeOf tests n i r + bit (tests i r)
+  pub place-row : (i r : ℕ) → returnPlace tests n i (r + 1) ≡ returnPlace tests n i r + bit (tests i r)
   place-row i r = rw (count-more (tests i) r) (omega arith)
 
   -- Behind the last row of a split comes the first of the next.
-  pub place-split : (i : ℕ) → placeOf tests n (i + 1) 0 ≡ placeOf tests n i n
+  pub place-split : (i : ℕ) → returnPlace tests n (i + 1) 0 ≡ returnPlace tests n i n
   unfolding sum count
   place-split i = rw add-one (omega arith)
 
@@ -33,6 +35,14 @@ module _ (tests : ℕ → Rows) (n : ℕ) where
 pub places-of-five : tab (placeOnPath (evenBorders 5 4) 4 2 1) 5 ≡ 3 ∷ 4 ∷ 9 ∷ 10 ∷ 12 ∷ []
 unfolding placeOnPath tab sum count firstFrom folds evenBorder listing each holds testsOf
 places-of-five = refl
+
+-- A path writes a double for each row, in row order, each from its place.
+module _ (bs : List ℕ) (N k : ℕ) (returns : List Float) (p : ℕ) where
+  pub joined-length : length (joined bs N k returns p) ≡ border bs N
+  joined-length = length-tab _ (border bs N)
+
+  pub joined-at : (r : ℕ) → r < border bs N → getD (joined bs N k returns p) r nan ≡ getD returns (placeOnPath bs N k p r) nan
+  joined-at r h = getD-tab _ nan (border bs N) r h
 
 -- Of the doubles the infinities and the NaN are not finite.
 pub finite-doubles :

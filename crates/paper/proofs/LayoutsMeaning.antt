@@ -8,11 +8,12 @@ use borrow.Author.Tests.{le-leb, lt-leb}
 use Rattle.lists.specs.Base.{count}
 use Rattle.paper.specs.Spans.{Table}
 use Rattle.paper.specs.Folds.{within, fold, folds}
+use Rattle.paper.specs.Embargo.{embargoed}
 use Rattle.paper.specs.Marks.{Rule, purged, markOf, mark}
 use Rattle.paper.specs.Layouts.{forward, kfold, cpcv, walkForward, rolling}
 use Rattle.paper.specs.Sets.{entry}
-use Rattle.paper.proofs.FoldsMeaning.{within-in, within-before, within-behind, count-within-from}
-use Rattle.paper.proofs.EmbargoMeaning.{embargoed-none}
+use Rattle.paper.proofs.FoldsMeaning.{within-in, within-is, within-before, within-behind, count-within-from}
+use Rattle.paper.proofs.EmbargoMeaning.{embargoed-none, embargoed-behind}
 
 -- ---- which rows are tested
 
@@ -21,6 +22,13 @@ kfold-tests bs s w = refl
 
 pub cpcv-tests : (bs : List ℕ) (N k s w : ℕ) → cpcv bs N k s w .test ≡ folds bs (entry N k s)
 cpcv-tests bs N k s w = refl
+
+-- All other rows take part, and the embargo has the width given.
+pub kfold-rest : (bs : List ℕ) (s w i : ℕ) → (kfold bs s w .unused i ≡ false) × (kfold bs s w .width ≡ w)
+kfold-rest bs s w i = (refl, refl)
+
+pub cpcv-rest : (bs : List ℕ) (N k s w i : ℕ) → (cpcv bs N k s w .unused i ≡ false) × (cpcv bs N k s w .width ≡ w)
+cpcv-rest bs N k s w i = (refl, refl)
 
 pub walkForward-tests : (bs : List ℕ) (m s : ℕ) → walkForward bs m s .test ≡ fold bs (m + s)
 walkForward-tests bs m s = refl
@@ -53,3 +61,13 @@ module _ (r : Rule) (T : Table) (b e : ℕ) where
   pub forward-behind : (i : ℕ) → e ≤ i → markOf r T (forward b e) i ≡ 5
   unfolding markOf
   forward-behind i h = rw (within-behind b e i h, le-leb e i h)
+
+-- That no row is embargoed here loses nothing: of any width, the embargo would reach no row before the tested ones.
+pub forward-embargo : (T : Table) (b e width i : ℕ) → i < b → embargoed T (within b e) width i ≡ false
+forward-embargo T b e width i h = go (embargoed T (within b e) width i) refl
+  where
+    go : (v : Bool) → embargoed T (within b e) width i ≡ v → v ≡ false
+    go true k =
+        let r = embargoed-behind T (within b e) width i k in
+        absurd (omega (arith, r .1, within-is b e (r .0) (r .2)))
+    go false k = refl

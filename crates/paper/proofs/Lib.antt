@@ -1,4 +1,5 @@
 -- What the definitions of specs/ mean, as laws, and the paper's worked examples.
+pub mod Accepted
 pub mod AnswersMeaning
 pub mod BlocksMeaning
 pub mod ChecksMeaning
@@ -6,6 +7,7 @@ pub mod Domains
 pub mod EmbargoMeaning
 pub mod Examples
 pub mod FoldsMeaning
+pub mod HandedMeaning
 pub mod JoiningMeaning
 pub mod LayoutsMeaning
 pub mod Listing
@@ -13,10 +15,13 @@ pub mod ListingMeaning
 pub mod MarksMeaning
 pub mod OverlapsMeaning
 pub mod PathsMeaning
+pub mod PlacesMeaning
 pub mod RefusalsMeaning
 pub mod Rows
 pub mod SetsExamples
 pub mod SpansMeaning
+pub mod TestedMeaning
 pub mod Times
 pub mod WidthExamples
 pub mod WidthMeaning
+pub mod WindowsMeaning

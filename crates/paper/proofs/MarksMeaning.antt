@@ -1,16 +1,48 @@
--- What marks and counts mean (01, "Purge, embargo, marks"): each row has exactly one of six marks, and each count is the
--- number of rows of its kind.
+-- What purging, marks and counts mean (01, "Purge, embargo, marks"): which rows each rule purges, that each row has exactly
+-- one of six marks, and that each count is the number of rows of its kind.
 use mathlib.Core.Path.{_≡_, refl, sym, _∙_}
 use mathlib.Core.Bool.{Bool, true, false, _&&_, _||_, not}
-use Prim.Native.Nat.{ℕ, zero, suc, _+_}
+use Prim.Native.Nat.{ℕ, zero, suc, _+_, _<_}
 use native.Mathlib.Omega.{arith}
 use lib.Dec.{eqb}
 use borrow.Author.Tests.{eqb-true, ne-eqb}
 use Rattle.lists.specs.Base.{bit, tab, count, tally}
+use Rattle.lists.specs.AnyLaws.{any-here, any-some, both}
 use Rattle.lists.specs.CountLaws.{count-ext, count-or, tally-tab}
-use Rattle.paper.specs.Spans.{Table}
-use Rattle.paper.specs.Marks.{Rule, purged, Split, mark, markOf, marksOf, countsOf}
+use Rattle.paper.specs.Spans.{Table, overlap}
+use Rattle.paper.specs.Folds.{Rows}
+use Rattle.paper.specs.Blocks.{begins, past, window}
+use Rattle.paper.specs.Marks.{Rule, byWindow, byPair, purged, Split, mark, markOf, marksOf, countsOf, embargoCount}
 use Rattle.paper.specs.Embargo.{embargoed}
+
+-- ---- purged rows
+
+module _ (T : Table) (t : Rows) (i : ℕ) where
+  -- The window rule purges a row for a block whose window it overlaps, and for no other reason.
+  pub purged-window :
+      purged byWindow T t i ≡ true →
+      (b : ℕ) × (b < T .rows) × (begins t b ≡ true) × (overlap (T .span i) (window T b (past (T .rows) t b)) ≡ true)
+  purged-window h =
+      let r = any-some _ (T .rows) h in
+      let w = both {a = begins t (r .0)} (r .2) in
+      (r .0, r .1, w .0, w .1)
+
+  pub window-purges :
+      (b : ℕ) → b < T .rows → begins t b ≡ true → overlap (T .span i) (window T b (past (T .rows) t b)) ≡ true →
+      purged byWindow T t i ≡ true
+  window-purges b l h k = any-here _ (T .rows) b l (rw (h, k))
+
+  -- The pair rule purges it for a test row that it overlaps.
+  pub purged-pair :
+      purged byPair T t i ≡ true → (j : ℕ) × (j < T .rows) × (t j ≡ true) × (overlap (T .span i) (T .span j) ≡ true)
+  purged-pair h =
+      let r = any-some _ (T .rows) h in
+      let w = both {a = t (r .0)} (r .2) in
+      (r .0, r .1, w .0, w .1)
+
+  pub pair-purges :
+      (j : ℕ) → j < T .rows → t j ≡ true → overlap (T .span i) (T .span j) ≡ true → purged byPair T t i ≡ true
+  pair-purges j l h k = any-here _ (T .rows) j l (rw (h, k))
 
 -- ---- one row
 
@@ -63,7 +95,7 @@ six-counts f zero h = refl
 six-counts f (suc n) h = omega (arith, six-counts f n h, h n)
 
 -- Two marks are tallied one by one or together.
-two-tallies : (v w : ℕ) (f : ℕ → ℕ) (n : ℕ) → (v ≡ w → ⊥) → tally v (tab f n) + tally w (tab f n) ≡ count (λ i. eqb (f i) v || eqb (f i) w) n
+pub two-tallies : (v w : ℕ) (f : ℕ → ℕ) (n : ℕ) → (v ≡ w → ⊥) → tally v (tab f n) + tally w (tab f n) ≡ count (λ i. eqb (f i) v || eqb (f i) w) n
 two-tallies v w f n h =
     rw (tally-tab v f n, tally-tab w f n)
     (sym (count-or (λ i. eqb (f i) v) (λ i. eqb (f i) w) n (λ i l e. ne-eqb (f i) w (λ z. h (sym (eqb-true (f i) v e) ∙ z)))))
@@ -105,3 +137,10 @@ module _ (r : Rule) (T : Table) (s : Split) where
   unfolding markOf
   count-embargoed =
       two-tallies 3 4 (markOf r T s) (T .rows) (omega arith) ∙ count-ext _ _ (T .rows) (λ i h. says i .some-embargo)
+
+  -- The engine's count leaves out the rows that are purged too.
+  pub count-embargo-alone :
+      embargoCount (marksOf r T s)
+      ≡ count (λ i. not (s .test i) && (not (s .unused i) && (not (purged r T (s .test) i) && embargoed T (s .test) (s .width) i))) (T .rows)
+  unfolding markOf
+  count-embargo-alone = tally-tab 3 (markOf r T s) (T .rows) ∙ count-ext _ _ (T .rows) (λ i h. says i .embargo)

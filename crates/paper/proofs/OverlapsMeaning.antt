@@ -6,12 +6,25 @@ use Prim.Native.Nat.{ℕ, _≤_, _<_}
 use lib.IntN.{ℤ, pos}
 use lib.ListN.{length, getD}
 use Rattle.lists.specs.Base.{bit, tab, count, any}
+use Rattle.lists.specs.AnyLaws.{any-here, any-some}
 use Rattle.lists.specs.CountLaws.{count-le, count-none}
 use Rattle.lists.specs.TabLaws.{length-tab, getD-tab}
 use Rattle.paper.specs.declared.span.Span.{Span}
-use Rattle.paper.specs.Spans.{Table, table, spanOf, reaches, drops}
+use Rattle.paper.specs.Spans.{Table, table, spanOf, reaches, overlap, drops}
 use Rattle.paper.specs.Folds.{fold, evenBorder, evenBorders}
 use Rattle.paper.specs.Overlaps.{leaks, overlapCount, trainFlags, naiveMarks}
+
+-- A training entry leaks for a test entry that it overlaps, and for no other reason.
+module _ (T : Table) (train test : List ℕ) (i : ℕ) where
+  pub leaks-for :
+      leaks T train test i ≡ true →
+      (j : ℕ) × (j < length test) × (overlap (T .span (getD train i 0)) (T .span (getD test j 0)) ≡ true)
+  leaks-for h = any-some _ (length test) h
+
+  pub entry-leaks :
+      (j : ℕ) → j < length test → overlap (T .span (getD train i 0)) (T .span (getD test j 0)) ≡ true →
+      leaks T train test i ≡ true
+  entry-leaks j l h = any-here _ (length test) j l h
 
 -- At most every training entry is counted, and none where no entry leaks.
 pub overlapCount-le : (T : Table) (train test : List ℕ) → overlapCount T train test ≤ length train

@@ -1,24 +1,43 @@
 -- When each refusal is due (01, "Refusal numbers"), as facts on numbers: each check passes exactly when its fact holds, and a
--- refusal that carries a place carries the first that fails.
+-- refusal that carries a place carries the first that fails. The last section has what each carries.
 use mathlib.Core.Path.{_≡_, refl, sym, ap, _∙_}
 use mathlib.Core.Bool.{Bool, true, false, not, _||_, _&&_, Bool·not-not}
-use mathlib.Core.List.{List, _++_}
-use Prim.Native.Nat.{ℕ, _*_, _≤_, _<_}
+use mathlib.Core.List.{List, [], _∷_, _++_}
+use Prim.Native.Nat.{ℕ, _-_, _*_, _≤_, _<_, min}
 use native.Mathlib.Omega.{arith}
 use lib.Dec.{leb, ltb, eqb}
-use lib.IntN.{ℤ}
+use lib.IntN.{ℤ, pos}
 use lib.ListN.{length, getD}
-use lib.Ieee.{Float, nan}
+use lib.Ieee.{Float, nan, inf, fin}
 use borrow.Author.Tests.{ltb-true, ltb-false, leb-false, eqb-true, eqb-false, le-ltb, lt-leb, lt-ltb, eq-eqb, ne-eqb, not-true, not-false}
-use Rattle.lists.specs.Base.{first, tally}
+use Rattle.lists.specs.Base.{firstFrom, first, tally}
 use Rattle.lists.specs.AnyLaws.{never}
 use Rattle.lists.specs.FirstLaws.{first-le, first-is, first-before, firstFrom-none}
-use Rattle.paper.specs.Refusals.{one}
-use Rattle.paper.specs.Spans.{Table, good}
+use Rattle.paper.specs.declared.refusal.Refusal.{Refusal}
+use Rattle.paper.specs.declared.refusal.Refusal.the-variants.{
+  NoRows,
+  InvalidSplits,
+  InvalidEmbargo,
+  WrongLength,
+  InvalidTestSplits,
+  InvalidMinTrainFolds,
+  TooManySplits,
+  TooManyRows,
+  TooManyFolds,
+  LengthsDiffer,
+  NoSuchNumber,
+  ZeroSize,
+  NothingToTest,
+  EmptyTrain,
+  ReturnsLength,
+}
+use Rattle.paper.specs.Refusals.{one, numberOf, carriedBy}
+use Rattle.paper.specs.Spans.{Table, table, reaches, good}
 use Rattle.paper.specs.Width.{isFraction}
-use Rattle.paper.specs.Sets.{tooMany, isSplit}
+use Rattle.paper.specs.Sets.{choose, tooMany, isSplit}
 use Rattle.paper.specs.Paths.{paths}
 use Rattle.paper.specs.Joining.{finite}
+use Rattle.paper.specs.Marks.{byPair}
 use Rattle.paper.specs.Checks.{
   Check,
   bare,
@@ -42,6 +61,7 @@ use Rattle.paper.specs.Checks.{
   returnsLength,
   notFinite,
   outOfRange,
+  emptyTrain,
 }
 
 -- The refusal is not given exactly when P holds.
@@ -106,8 +126,8 @@ pub badFraction-passes : (x : Float) → Passes (badFraction x) (isFraction x �
 badFraction-passes x = record { shows = not-false (isFraction x); holds = λ h. ap not h }
 
 -- 5
-pub wrongLength-passes : {A : Type 0} (l : List A) (n : ℕ) → Passes (wrongLength l n) (length l ≡ n)
-wrongLength-passes l n = same 5 (length l) n
+pub wrongLength-passes : (room n : ℕ) → Passes (wrongLength room n) (room ≡ n)
+wrongLength-passes room n = same 5 room n
 
 -- 6 and 7
 between : (number N k : ℕ) → Passes (bare number (eqb k 0 || leb N k)) ((1 ≤ k) × (k < N))
@@ -130,6 +150,10 @@ tooManyFolds-passes N = at-most 11 N 64
 -- 8; its edge is `tooMany-edge` of Rows.
 pub tooManySplits-passes : (N k : ℕ) → Passes (tooManySplits N k) (tooMany N k ≡ false)
 tooManySplits-passes N k = record { shows = λ h. h; holds = λ h. h }
+
+pub tooManySplits-fits :
+    (N k : ℕ) → Passes (tooManySplits N k) (choose N (min k (N - k)) * min k (N - k) ≤ 18446744073709551615)
+tooManySplits-fits N k = at-most 8 (choose N (min k (N - k)) * min k (N - k)) 18446744073709551615
 
 -- 15
 pub zeroSize-passes : (a size step : ℕ) → Passes (zeroSize a size step) ((1 ≤ a) × (1 ≤ size) × (1 ≤ step))
@@ -205,3 +229,67 @@ outOfRange-passes n train test =
       shows = λ h i l. leb-false n (getD (train ++ test) i 0) (w .shows h i l);
       holds = λ all. w .holds (λ i l. lt-leb n (getD (train ++ test) i 0) (all i l));
     }
+
+-- ---- what is carried
+
+-- The refusal has the check's number and carries what the check carries.
+abbrev Says : Refusal → Check → Type 0
+Says r c = (numberOf r ≡ c .number) × (carriedBy r ≡ c .carried)
+
+-- Each check, whatever it is made with, has its refusal: 2 carries N and n, or N and 0, 3 the fraction, most nothing.
+module _
+    (starts ends : List ℤ) (n N k m number a size step room : ℕ) (x : Float) (set marks : List ℕ) (returns : List Float)
+  where
+    pub record Carries : Type 0 where
+      pub lengths-differ : Says LengthsDiffer (lengthsDiffer starts ends)
+      pub no-rows : Says NoRows (noRows n)
+      pub too-many-rows : Says TooManyRows (tooManyRows n)
+      pub bad-folds : Says (InvalidSplits N n) (badFolds N n)
+      pub few-folds : Says (InvalidSplits N 0) (fewFolds N)
+      pub bad-fraction : Says (InvalidEmbargo x) (badFraction x)
+      pub wrong-length : Says WrongLength (wrongLength room n)
+      pub bad-test-folds : Says InvalidTestSplits (badTestFolds N k)
+      pub bad-minimum : Says InvalidMinTrainFolds (badMinimum N m)
+      pub too-many-folds : Says TooManyFolds (tooManyFolds N)
+      pub too-many-splits : Says TooManySplits (tooManySplits N k)
+      pub zero-size : Says ZeroSize (zeroSize a size step)
+      pub nothing-to-test : Says NothingToTest (nothingToTest a n)
+      pub no-such : Says NoSuchNumber (noSuch n number)
+      pub no-split : Says NoSuchNumber (noSplit N k set)
+      pub returns-length : Says ReturnsLength (returnsLength returns n N k)
+      pub empty-train : emptyTrain byPair marks ≡ bare 17 (eqb (tally 0 marks) 0) ∷ []
+      pub empty-train-says : Says EmptyTrain (bare 17 (eqb (tally 0 marks) 0))
+
+    pub carries : Carries
+    carries =
+        record {
+          lengths-differ = (refl, refl);
+          no-rows = (refl, refl);
+          too-many-rows = (refl, refl);
+          bad-folds = (refl, refl);
+          few-folds = (refl, refl);
+          bad-fraction = (refl, refl);
+          wrong-length = (refl, refl);
+          bad-test-folds = (refl, refl);
+          bad-minimum = (refl, refl);
+          too-many-folds = (refl, refl);
+          too-many-splits = (refl, refl);
+          zero-size = (refl, refl);
+          nothing-to-test = (refl, refl);
+          no-such = (refl, refl);
+          no-split = (refl, refl);
+          returns-length = (refl, refl);
+          empty-train = refl;
+          empty-train-says = (refl, refl);
+        }
+
+-- 4, 19 and 9 with two that fail each. 9 carries the index and not its place, and searches the training list first.
+pub record CarriesFirst : Type 0 where
+  pub row : badSpan (table (pos 0 ∷ pos 5 ∷ pos 7 ∷ []) (pos 0 ∷ pos 4 ∷ pos 6 ∷ [])) .carried ≡ one 1
+  pub place : notFinite (fin false 0 (pos 0) ∷ inf false ∷ nan ∷ []) .carried ≡ one 1
+  pub training-index : outOfRange 3 (2 ∷ 4 ∷ 5 ∷ []) (9 ∷ []) .carried ≡ one 4
+  pub test-index : outOfRange 3 (2 ∷ []) (1 ∷ 9 ∷ []) .carried ≡ one 9
+
+pub carries-first : CarriesFirst
+unfolding firstFrom reaches
+carries-first = record { row = refl; place = refl; training-index = refl; test-index = refl }

@@ -1,6 +1,6 @@
 -- Laws of the one test of times, `reaches`, and of the later of two ends. Everything else about times goes through these.
 use mathlib.Core.Path.{_≡_, refl}
-use mathlib.Core.Bool.{Bool, true, false}
+use mathlib.Core.Bool.{Bool, true, false, cond}
 use mathlib.Core.Logic.{_⊎_, inl, inr}
 use Prim.Native.Nat.{ℕ, _≤_, _<_}
 use lib.IntN.{ℤ}
@@ -21,6 +21,10 @@ pub ⊑-refl : (a : ℤ) → a ⊑ a
 
 pub ⊑-trans : (a b c : ℤ) → a ⊑ b → b ⊑ c → a ⊑ c
 ⊑-trans a b c h k = record { le = leZ-trans a b c (h .le) (k .le) }
+
+-- As code finds it.
+pub ⊑-unless : (a b : ℤ) → ltZ b a ≡ false → a ⊑ b
+⊑-unless a b h = record { le = ltZ-not b a h }
 
 -- What reaches an end reaches a later one, and what starts earlier reaches it too.
 pub reaches-later : (s : ℤ) {d e : ℤ} → d ⊑ e → reaches s d ≡ true → reaches s e ≡ true
@@ -46,7 +50,7 @@ later-right a b = go (ltZ a b) refl
   where
     go : (t : Bool) → ltZ a b ≡ t → b ⊑ later a b
     go true h = rw h (⊑-refl b)
-    go false h = rw h (record { le = ltZ-not a b h })
+    go false h = rw h (⊑-unless b a h)
 
 pub later-one : (a b : ℤ) → (later a b ≡ a) ⊎ (later a b ≡ b)
 unfolding later
@@ -63,3 +67,31 @@ latest-bound T b e i g h =
 
 pub latest-place : (T : Table) (b e : ℕ) → b < e → (i : ℕ) × (b ≤ i) × (i < e) × (latest T b e ≡ T .span i .end)
 latest-place T b e h = over-place later (λ j. T .span j .end) later-one b e h
+
+-- The earlier of two starts. It is no later than either.
+unfoldable pub earlier : ℤ → ℤ → ℤ
+earlier a b = cond (ltZ b a) b a
+
+pub earlier-left : (a b : ℤ) → (earlier a b) ⊑ a
+unfolding earlier
+earlier-left a b = go (ltZ b a) refl
+  where
+    go : (t : Bool) → ltZ b a ≡ t → (earlier a b) ⊑ a
+    go true h = rw h (record { le = ltZ-leZ b a h })
+    go false h = rw h (⊑-refl a)
+
+pub earlier-right : (a b : ℤ) → (earlier a b) ⊑ b
+unfolding earlier
+earlier-right a b = go (ltZ b a) refl
+  where
+    go : (t : Bool) → ltZ b a ≡ t → (earlier a b) ⊑ b
+    go true h = rw h (⊑-refl b)
+    go false h = rw h (⊑-unless a b h)
+
+-- The earliest start of the rows b up to e. No start of the block is earlier.
+abbrev pub earliest : Table → ℕ → ℕ → ℤ
+earliest T b e = over earlier (λ i. T .span i .start) b e
+
+pub earliest-bound : (T : Table) (b e i : ℕ) → b ≤ i → i < e → (earliest T b e) ⊑ (T .span i .start)
+earliest-bound T b e i g h =
+    over-bound earlier (λ j. T .span j .start) (λ x y. y ⊑ x) ⊑-refl (λ x y z k l. ⊑-trans z y x l k) earlier-left earlier-right b e i g h

@@ -17,7 +17,7 @@ abbrev pub saidMarked : Marked → Outcome Counts
 saidMarked (Marked.Done c) = done c
 saidMarked (Marked.Refused r) = saidRefusal r
 
--- A list was written.
+-- What was asked for stands in the lent list, or beside the answer.
 abbrev pub saidWritten : Written → Outcome (Unit {0})
 saidWritten Written.Done = done tt
 saidWritten (Written.Refused r) = saidRefusal r

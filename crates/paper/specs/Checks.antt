@@ -1,140 +1,31 @@
--- The checks of each call, in one chain each, in 01's order and numbers, with what each refusal carries (01, "Refusal
--- numbers"). A chain gives the first of its refusals that is due.
+-- The checks of each call, in one chain each, in 01's order and numbers (01, "Refusal numbers"): a call gives the first of its
+-- refusals that is due. What each refusal looks at stands in Due.
 -- n is the number of rows, N that of folds, x the fraction, k the test folds of a split, m the minimum of training folds,
--- s a split number, p a path number, g a fold number; a, size and step are those of the rolling layout.
-use mathlib.Core.Bool.{Bool, cond, not, _||_, _&&_}
+-- s a split number, p a path number, g a fold number; a, size and step are those of the rolling layout; room is the length of
+-- the lent list that the call writes.
 use mathlib.Core.List.{List, [], _∷_, _++_}
 use Prim.Native.Nat.{ℕ, _+_, _-_, _*_}
-use lib.Dec.{leb, ltb, eqb}
 use lib.IntN.{ℤ}
-use lib.ListN.{length, getD}
-use lib.Ieee.{Float, nan}
-use Rattle.lists.specs.Base.{first, tally}
+use lib.Ieee.{Float}
+use lib.ListN.{length}
 use Rattle.paper.specs.declared.settings.Settings.{Settings}
-use Rattle.paper.specs.Refusals.{Outcome, Carried, done, refused, nothing, one, two, double}
-use Rattle.paper.specs.Spans.{Table, table, good}
-use Rattle.paper.specs.Width.{isFraction}
-use Rattle.paper.specs.Sets.{choose, tooMany, isSplit}
+use Rattle.paper.specs.Spans.{table}
+use Rattle.paper.specs.Sets.{choose}
 use Rattle.paper.specs.Paths.{paths}
-use Rattle.paper.specs.Joining.{finite}
-use Rattle.paper.specs.Marks.{Rule, byWindow, byPair}
+use Rattle.paper.specs.Marks.{Rule, byPair}
+pub use Rattle.paper.specs.Due.{Check, lent, bare, firstDue, lengthsDiffer, noRows, tooManyRows, badFolds, fewFolds, badFraction, badSpan, wrongLength, badTestFolds, badMinimum, tooManyFolds, tooManySplits, zeroSize, nothingToTest, noSuch, noSplit, returnsLength, notFinite, outOfRange, emptyTrain}
+unfoldable pub use Rattle.paper.specs.Due.{checked}
 
--- A refusal, what it carries, and whether it is due.
-pub record Check : Type 0 where
-  pub number : ℕ
-  pub carried : Carried
-  pub due : Bool
-
--- The first refusal that is due; the result where none is.
-unfoldable pub checked : {A : Type 0} → List Check → A → Outcome A
-checked [] a = done a
-checked (c ∷ cs) a = cond (c .due) (refused (c .number) (c .carried)) (checked cs a)
-
--- Every refusal leaves lent memory as it was, except 17, which leaves the split's marks written.
-abbrev pub lent : {A B : Type 0} → Outcome A → List B → List B → List B
-lent (done a) old new = new
-lent (refused number carried) old new = cond (eqb number 17) new old
-
-abbrev pub bare : ℕ → Bool → Check
-bare number due = record { number = number; carried = nothing; due = due }
-
--- The first place of a list of n that fails, as a refusal that carries what stands there.
-abbrev pub firstDue : ℕ → (ℕ → Bool) → ℕ → (ℕ → ℕ) → Check
-firstDue number fails n value =
-    record { number = number; carried = one (value (first fails n)); due = ltb (first fails n) n }
-
--- 12: starts and ends differ in length.
-abbrev pub lengthsDiffer : List ℤ → List ℤ → Check
-lengthsDiffer starts ends = bare 12 (not (eqb (length starts) (length ends)))
-
--- 1: no rows.
-abbrev pub noRows : ℕ → Check
-noRows n = bare 1 (eqb n 0)
-
--- 10: rows above 1,048,576.
-abbrev pub tooManyRows : ℕ → Check
-tooManyRows n = bare 10 (ltb 1048576 n)
-
--- 2: N < 2 or N > n.
-abbrev pub badFolds : ℕ → ℕ → Check
-badFolds N n = record { number = 2; carried = two N n; due = ltb N 2 || ltb n N }
-
--- 2 of a call on numbers alone: N < 2, n carried as 0.
-abbrev pub fewFolds : ℕ → Check
-fewFolds N = record { number = 2; carried = two N 0; due = ltb N 2 }
-
--- 3: the fraction is not in [0,1).
-abbrev pub badFraction : Float → Check
-badFraction x = record { number = 3; carried = double x; due = not (isFraction x) }
-
--- 4: some end before its start; carries the first such row.
-abbrev pub badSpan : Table → Check
-badSpan T = firstDue 4 (λ i. not (good T (T .span i))) (T .rows) (λ i. i)
-
--- 5: a lent list not as long as it should be.
-abbrev pub wrongLength : {A : Type 0} → List A → ℕ → Check
-wrongLength l n = bare 5 (not (eqb (length l) n))
-
--- 6: k = 0 or k ≥ N.
-abbrev pub badTestFolds : ℕ → ℕ → Check
-badTestFolds N k = bare 6 (eqb k 0 || leb N k)
-
--- 7: m = 0 or m ≥ N.
-abbrev pub badMinimum : ℕ → ℕ → Check
-badMinimum N m = bare 7 (eqb m 0 || leb N m)
-
--- 11: combinations of more than 64 folds.
-abbrev pub tooManyFolds : ℕ → Check
-tooManyFolds N = bare 11 (ltb 64 N)
-
--- 8: too many splits.
-abbrev pub tooManySplits : ℕ → ℕ → Check
-tooManySplits N k = bare 8 (tooMany N k)
-
--- 15: a size or step is 0.
-abbrev pub zeroSize : ℕ → ℕ → ℕ → Check
-zeroSize a size step = bare 15 (eqb a 0 || eqb size 0 || eqb step 0)
-
--- 16: the minimum train size is at least n.
-abbrev pub nothingToTest : ℕ → ℕ → Check
-nothingToTest a n = bare 16 (leb n a)
-
--- 13: a number that is not below how many there are.
-abbrev pub noSuch : ℕ → ℕ → Check
-noSuch many number = bare 13 (leb many number)
-
--- 13 of a fold set: it is no split.
-abbrev pub noSplit : ℕ → ℕ → List ℕ → Check
-noSplit N k set = bare 13 (not (isSplit N k set))
-
--- 18: the joined returns are not C(N-1,k-1)·n long.
-abbrev pub returnsLength : List Float → ℕ → ℕ → ℕ → Check
-returnsLength returns n N k = bare 18 (not (eqb (length returns) (paths N k * n)))
-
--- 19: a return that is not finite; carries the first place.
-abbrev pub notFinite : List Float → Check
-notFinite returns = firstDue 19 (λ i. not (finite (getD returns i nan))) (length returns) (λ i. i)
-
--- 9: an index that is no row; carries it, the training list searched first.
-abbrev pub outOfRange : ℕ → List ℕ → List ℕ → Check
-outOfRange n train test =
-    firstDue 9 (λ i. leb n (getD (train ++ test) i 0)) (length (train ++ test)) (λ i. getD (train ++ test) i 0)
-
--- 17: no row has mark 0. Only the pair rule refuses this.
-abbrev pub emptyTrain : Rule → List ℕ → List Check
-emptyTrain byWindow marks = []
-emptyTrain byPair marks = bare 17 (eqb (tally 0 marks) 0) ∷ []
-
--- What all split calls on folds check first: 12, 1, 10, 2, 3, 4, 5.
-abbrev pub tableChecks : List ℤ → List ℤ → Settings → List ℕ → List Check
-tableChecks starts ends st lentMarks =
+-- What k-fold, combinations and walk-forward check first: 12, 1, 10, 2, 3, 4, 5.
+abbrev pub tableChecks : List ℤ → List ℤ → Settings → ℕ → List Check
+tableChecks starts ends st room =
     lengthsDiffer starts ends
     ∷ noRows (length starts)
     ∷ tooManyRows (length starts)
     ∷ badFolds (st .folds) (length starts)
     ∷ badFraction (st .embargo)
     ∷ badSpan (table starts ends)
-    ∷ wrongLength lentMarks (length starts)
+    ∷ wrongLength room (length starts)
     ∷ []
 
 -- What all calls on combinations check: 6, 11, 8.
@@ -142,57 +33,57 @@ abbrev pub combinationChecks : ℕ → ℕ → List Check
 combinationChecks N k = badTestFolds N k ∷ tooManyFolds N ∷ tooManySplits N k ∷ []
 
 -- k-fold, by either rule. `marks` are those of the split.
-abbrev pub kfoldChecks : Rule → List ℤ → List ℤ → Settings → ℕ → List ℕ → List ℕ → List Check
-kfoldChecks r starts ends st s lentMarks marks =
-    tableChecks starts ends st lentMarks ++ noSuch (st .folds) s ∷ emptyTrain r marks
+abbrev pub kfoldChecks : Rule → List ℤ → List ℤ → Settings → ℕ → ℕ → List ℕ → List Check
+kfoldChecks r starts ends st s room marks =
+    tableChecks starts ends st room ++ noSuch (st .folds) s ∷ emptyTrain r marks
 
 -- Combinations, by either rule.
-abbrev pub cpcvChecks : Rule → List ℤ → List ℤ → Settings → ℕ → ℕ → List ℕ → List ℕ → List Check
-cpcvChecks r starts ends st k s lentMarks marks =
-    tableChecks starts ends st lentMarks
+abbrev pub cpcvChecks : Rule → List ℤ → List ℤ → Settings → ℕ → ℕ → ℕ → List ℕ → List Check
+cpcvChecks r starts ends st k s room marks =
+    tableChecks starts ends st room
     ++ combinationChecks (st .folds) k
     ++ noSuch (choose (st .folds) k) s
     ∷ emptyTrain r marks
 
 -- Walk-forward.
-abbrev pub walkForwardChecks : List ℤ → List ℤ → Settings → ℕ → ℕ → List ℕ → List Check
-walkForwardChecks starts ends st m s lentMarks =
-    tableChecks starts ends st lentMarks ++ badMinimum (st .folds) m ∷ noSuch (st .folds - m) s ∷ []
+abbrev pub walkForwardChecks : List ℤ → List ℤ → Settings → ℕ → ℕ → ℕ → List Check
+walkForwardChecks starts ends st m s room =
+    tableChecks starts ends st room ++ badMinimum (st .folds) m ∷ noSuch (st .folds - m) s ∷ []
 
--- The rolling layout: no N, the fraction for 3 only, and the pair rule.
-abbrev pub rollingChecks : List ℤ → List ℤ → Float → ℕ → ℕ → ℕ → ℕ → List ℕ → List ℕ → List Check
-rollingChecks starts ends x a size step s lentMarks marks =
+-- The rolling layout: no N, the fraction for 3 only, and the pair rule. 13 is due where the split's first row is none.
+abbrev pub rollingChecks : List ℤ → List ℤ → Float → ℕ → ℕ → ℕ → ℕ → ℕ → List ℕ → List Check
+rollingChecks starts ends x a size step s room marks =
     lengthsDiffer starts ends
     ∷ noRows (length starts)
     ∷ tooManyRows (length starts)
     ∷ badFraction x
     ∷ badSpan (table starts ends)
-    ∷ wrongLength lentMarks (length starts)
+    ∷ wrongLength room (length starts)
     ∷ zeroSize a size step
     ∷ nothingToTest a (length starts)
     ∷ noSuch (length starts) (a + s * step)
     ∷ emptyTrain byPair marks
 
 -- The naive splitter.
-abbrev pub naiveChecks : ℕ → ℕ → ℕ → List ℕ → List Check
-naiveChecks n N s lentMarks = badFolds N n ∷ wrongLength lentMarks n ∷ noSuch N s ∷ []
+abbrev pub naiveChecks : ℕ → ℕ → ℕ → ℕ → List Check
+naiveChecks n N s room = badFolds N n ∷ wrongLength room n ∷ noSuch N s ∷ []
 
 -- The overlap count reads spans as they are.
 abbrev pub overlapChecks : List ℤ → List ℤ → List ℕ → List ℕ → List Check
 overlapChecks starts ends train test = lengthsDiffer starts ends ∷ outOfRange (length starts) train test ∷ []
 
 -- `ml_get_train_times`: 12 for either pair of lists.
-abbrev pub trainTimesChecks : List ℤ → List ℤ → List ℤ → List ℤ → List ℕ → List Check
-trainTimesChecks starts ends testStarts testEnds lentFlags =
-    lengthsDiffer starts ends ∷ lengthsDiffer testStarts testEnds ∷ wrongLength lentFlags (length starts) ∷ []
+abbrev pub trainTimesChecks : List ℤ → List ℤ → List ℤ → List ℤ → ℕ → List Check
+trainTimesChecks starts ends testStarts testEnds room =
+    lengthsDiffer starts ends ∷ lengthsDiffer testStarts testEnds ∷ wrongLength room (length starts) ∷ []
 
 -- Joining path p.
-abbrev pub joiningChecks : ℕ → ℕ → ℕ → ℕ → List Float → List Float → List Check
-joiningChecks n N k p returns lentOutput =
+abbrev pub joiningChecks : ℕ → ℕ → ℕ → ℕ → List Float → ℕ → List Check
+joiningChecks n N k p returns room =
     noRows n
     ∷ tooManyRows n
     ∷ badFolds N n
-    ∷ wrongLength lentOutput n
+    ∷ wrongLength room n
     ∷ combinationChecks N k
     ++ noSuch (paths N k) p
     ∷ returnsLength returns n N k
@@ -216,6 +107,6 @@ abbrev pub pathChecks : ℕ → ℕ → ℕ → ℕ → List Check
 pathChecks N k p g = numbersChecks N k ++ noSuch (paths N k) p ∷ noSuch N g ∷ []
 
 -- The whole path, in a lent list of N places. A list of another length gets 5, in its place of the order.
-abbrev pub wholePathChecks : ℕ → ℕ → ℕ → List ℕ → List Check
-wholePathChecks N k p lentPath =
-    fewFolds N ∷ wrongLength lentPath N ∷ combinationChecks N k ++ noSuch (paths N k) p ∷ []
+abbrev pub wholePathChecks : ℕ → ℕ → ℕ → ℕ → List Check
+wholePathChecks N k p room =
+    fewFolds N ∷ wrongLength room N ∷ combinationChecks N k ++ noSuch (paths N k) p ∷ []

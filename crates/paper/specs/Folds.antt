@@ -1,5 +1,5 @@
 -- Folds (01, "Rows, times, settings": Folds). Folds come as borders: fold f has the rows from border f up to border f + 1.
--- Everything above speaks of borders; even folds are one way to make them.
+-- Marks, blocks and joining speak of borders; even folds are one way to make them.
 use mathlib.Core.Bool.{Bool, false, cond, _&&_, _||_}
 use mathlib.Core.List.{List, [], _∷_}
 use Prim.Native.Nat.{ℕ, zero, suc, _+_, _/_, _%_}
@@ -27,7 +27,7 @@ unfoldable pub folds : List ℕ → List ℕ → Rows
 folds bs [] i = false
 folds bs (f ∷ fs) i = fold bs f i || folds bs fs i
 
--- The fold, of N, that a row is in: the first whose end is past the row.
+-- The fold, of N, that a row is in: the first whose end is past the row. (N, for a row past the last.)
 abbrev pub foldOf : List ℕ → ℕ → ℕ → ℕ
 foldOf bs N r = first (λ f. ltb r (border bs (f + 1))) N
 

@@ -12,13 +12,13 @@ use Rattle.paper.specs.Paths.{splitOnPath}
 
 -- Where the return of row r in split i lies, for splits that test `tests 0`, `tests 1`, .. of n rows: behind all returns of
 -- the splits before i, and behind those of split i's rows before r.
-abbrev pub placeOf : (ℕ → Rows) → ℕ → ℕ → ℕ → ℕ
-placeOf tests n i r = sum (λ j. count (tests j) n) i + count (tests i) r
+abbrev pub returnPlace : (ℕ → Rows) → ℕ → ℕ → ℕ → ℕ
+returnPlace tests n i r = sum (λ j. count (tests j) n) i + count (tests i) r
 
 -- The place that path p reads for row r: the one of r in the split that the path takes for r's fold.
 unfoldable pub placeOnPath : List ℕ → ℕ → ℕ → ℕ → ℕ → ℕ
 placeOnPath bs N k p r =
-    placeOf (λ j. folds bs (entry N k j)) (border bs N) (splitOnPath N k p (foldOf bs N r)) r
+    returnPlace (λ j. folds bs (entry N k j)) (border bs N) (splitOnPath N k p (foldOf bs N r)) r
 
 -- Path p, joined from the returns.
 abbrev pub joined : List ℕ → ℕ → ℕ → List Float → ℕ → List Float

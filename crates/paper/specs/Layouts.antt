@@ -20,7 +20,7 @@ forward b e = record { test = within b e; unused = λ i. leb e i; width = 0 }
 abbrev pub kfold : List ℕ → ℕ → ℕ → Split
 kfold bs s w = cross (fold bs s) w
 
--- Split s tests the folds of the s-th set.
+-- Split s, from 0, tests the folds of the s-th set of the listing.
 abbrev pub cpcv : List ℕ → ℕ → ℕ → ℕ → ℕ → Split
 cpcv bs N k s w = cross (folds bs (entry N k s)) w
 

@@ -1,7 +1,8 @@
--- The definitions of document 01, one file for each of its sections.
+-- The definitions of document 01. Each file is headed by 01's section.
 pub mod Answers
 pub mod Blocks
 pub mod Checks
+pub mod Due
 pub mod Embargo
 pub mod Folds
 pub mod Handed
@@ -10,7 +11,10 @@ pub mod Layouts
 pub mod Marks
 pub mod Overlaps
 pub mod Paths
+pub mod Places
 pub mod Refusals
+pub mod RowCalls
 pub mod Sets
 pub mod Spans
+pub mod SplitCalls
 pub mod Width

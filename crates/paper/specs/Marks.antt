@@ -13,7 +13,7 @@ use Rattle.paper.specs.Embargo.{embargoed}
 pub data Rule : Type 0 where
   byWindow byPair : Rule
 
--- Row i overlaps some test row's span.
+-- Row i overlaps some test row's span. (A test row overlaps its own: the marks ask only of other rows.)
 abbrev pub meets : Table → Rows → Rows
 meets T t i = any (λ j. t j && overlaps T (T .span i) (T .span j)) (T .rows)
 
@@ -57,3 +57,7 @@ countsOf l =
       purged = tally 2 l + tally 4 l;
       embargoed = tally 3 l + tally 4 l;
     }
+
+-- What the engine calls `embargo_count`: the number of 3s.
+abbrev pub embargoCount : List ℕ → ℕ
+embargoCount l = tally 3 l

@@ -1,5 +1,6 @@
 -- Times, spans and tables (01, "Rows, times, settings": tables, overlap, `ml_get_train_times`).
--- Only the order of times matters. One test of two times stands behind everything: `reaches`.
+-- Only the order of times matters. One test of two times stands behind overlap, refusal 4 and the embargo's stepping:
+-- `reaches`. `ml_get_train_times` compares times by a rule of its own.
 use mathlib.Core.Bool.{Bool, cond, _&&_, _||_, not}
 use mathlib.Core.List.{List}
 use Prim.Native.Nat.{ℕ}
@@ -21,7 +22,7 @@ spanOf starts ends i = record { start = getD starts i (pos 0); end = getD ends i
 abbrev pub table : List ℤ → List ℤ → Table
 table starts ends = record { rows = length starts; span = spanOf starts ends }
 
--- What starts at s starts no later than what ends at e does.
+-- A start s is no later than an end e.
 unfoldable pub reaches : ℤ → ℤ → Bool
 reaches s e = leZ s e
 
@@ -33,7 +34,7 @@ later a b = cond (ltZ a b) b a
 abbrev pub overlap : Span → Span → Bool
 overlap a b = reaches (a .start) (b .end) && reaches (b .start) (a .end)
 
--- The same, as the table measures its spans.
+-- The same, of two spans of a table. (Every table measures its spans alike.)
 abbrev pub overlaps : Table → Span → Span → Bool
 overlaps T a b = overlap a b
 

@@ -18,7 +18,8 @@ pub enum Marked {
     Refused(Refusal),
 }
 
-// A lent list was written, and there is nothing more to say: train times, joining, a whole path.
+// Done, with nothing more to say: what was asked for stands in a lent list (train times, joining, a whole path) or beside the
+// answer (the folds of a split).
 pub enum Written {
     Done,
     Refused(Refusal),

@@ -19,7 +19,7 @@ pub struct FoldSet {
 }
 
 impl FoldSet {
-    // The set with no fold: what stands beside a refusal.
+    // The set with no fold: what stands beside a refusal, and after the last set.
     pub fn none() -> Self
         ensures { λ r. ⌜ r ≡ noFolds ⌝ }
     {

@@ -1,10 +1,8 @@
--- The two tests of the code are the two of `overlap`; a time that is kept as bits is read back first.
-use mathlib.Core.Path.{_≡_, sym, _∙_}
-use mathlib.Core.Bool.{true, false}
+-- The two tests of the code are the two of `overlap`; a time that is kept as bits is read back.
 use Prim.Native.Nat.{_<_, _^_}
 use native.Mathlib.Omega.{arith}
-use lib.Signed.{mag, leZ}
-use Rattle.lists.specs.SignedLaws.{le-read}
+use lib.Signed.{mag}
+use Rattle.lists.specs.SignedLaws.{le-and-taken, le-and-left}
 use Rattle.paper.specs.Spans.{reaches}
 use Rattle.spans.proofs.intervals_overlap.Statement.{statement}
 use Rattle.spans.proofs.intervals_overlap.Tie as tie
@@ -18,8 +16,7 @@ returns c =
     let a-end : mag (g .a .end) < 2 ^ 63 = omega arith in
     let b-start : mag (g .b .start) < 2 ^ 63 = omega arith in
     let b-end : mag (g .b .end) < 2 ^ 63 = omega arith in
-    let first : leZ (g .a .start) (g .b .end) ≡ true = sym (le-read (g .a .start) (g .b .end) a-start b-end) ∙ t .if1 .taken in
-    le-read (g .b .start) (g .a .end) b-start a-end ∙ rw first
+    le-and-taken (g .a .start) (g .b .end) (g .b .start) (g .a .end) a-start b-end b-start a-end (t .if1 .taken)
 
 returns-2 : tie.Need-returns-2
 unfolding reaches
@@ -27,8 +24,7 @@ returns-2 c =
     let g = c .before .before .before .before .before .args in
     let a-start : mag (g .a .start) < 2 ^ 63 = omega arith in
     let b-end : mag (g .b .end) < 2 ^ 63 = omega arith in
-    let first : leZ (g .a .start) (g .b .end) ≡ false = sym (le-read (g .a .start) (g .b .end) a-start b-end) ∙ c .if1 .left in
-    le-read (g .a .start) (g .b .end) a-start b-end ∙ rw first
+    le-and-left (g .a .start) (g .b .end) (g .b .start) (g .a .end) a-start b-end (c .if1 .left)
 
 pub intervals-overlap-spec : {M : Type 1} → statement M
 intervals-overlap-spec = tie.close (tie.spec returns returns-2)

@@ -1,0 +1,3 @@
+-- What the functions' proofs cite.
+mod JoinLaws
+mod RunLaws

@@ -1,0 +1,2 @@
+-- What the checks say in the paper's terms.
+pub mod Said

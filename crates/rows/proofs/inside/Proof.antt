@@ -1,0 +1,14 @@
+-- Where the first test fails, so do both.
+use borrow.Author.Tests.{le-leb, lt-leb}
+use Rattle.rows.proofs.inside.Statement.{statement}
+use Rattle.rows.proofs.inside.Tie as tie
+
+returns : tie.Need-returns
+returns c = rw (le-leb _ _ (c .if1 .taken))
+
+returns-2 : tie.Need-returns-2
+returns-2 c = rw (lt-leb _ _ (c .if1 .left))
+
+pub inside-spec : {M : Type 1} → statement M
+inside-spec =
+    tie.close (tie.spec returns returns-2)
