@@ -1,0 +1,3 @@
+-- What bytes spell. Nothing here knows of splits.
+pub mod Answers
+pub mod Numbers
