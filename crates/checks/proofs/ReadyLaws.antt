@@ -4,9 +4,8 @@ use mathlib.Core.Bool.{Bool, true, false, _||_}
 use mathlib.Core.List.{List, [], _∷_, _++_}
 use Prim.Native.Nat.{ℕ, _≤_, _<_}
 use native.Mathlib.Nat.{pos-of-ne-zero}
-use native.Mathlib.Omega.{arith}
 use borrow.Author.Tests.{eqb-false, leb-false, ltb-false, not-false, eqb-true}
-use lib.Dec.{eqb, leb, ltb}
+use lib.Dec.{eqb, leb}
 use Rattle.lists.specs.AnyLaws.{never}
 use Rattle.paper.specs.Sets.{choose, isSplit}
 use Rattle.paper.specs.Paths.{paths}

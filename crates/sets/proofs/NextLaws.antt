@@ -8,7 +8,7 @@ use native.Mathlib.Decide.{decLe, ℕ-discrete}
 use native.Mathlib.Omega.{arith}
 use borrow.Author.Tests.{lt-ltb, le-ltb}
 use native.Mathlib.Numerals.{add-one}
-use lib.ListN.{length, getD, take, drop, length-append}
+use lib.ListN.{length, getD, take, length-append}
 use lib.Seq.{drop-length, drop-cons, split-at, length-take-le}
 use Rattle.paper.specs.Sets.{choose, listing}
 use Rattle.paper.proofs.Listing.{choose-past, choose-self, entry-first, entry-second}

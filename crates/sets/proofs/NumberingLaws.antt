@@ -4,19 +4,19 @@ use mathlib.Core.Path.{_≡_, refl, sym, ap, _∙_}
 use mathlib.Core.Logic.{_≢_}
 use mathlib.Core.List.{List, [], _∷_, _++_, append-assoc, append-nil}
 use mathlib.Core.Bool.{true}
-use Prim.Native.Nat.{ℕ, zero, suc, _+_, _-_, _≤_, _<_, _^_, zero-le}
+use Prim.Native.Nat.{ℕ, suc, _+_, _-_, _≤_, _<_, _^_, zero-le}
 use native.Mathlib.Omega.{arith}
 use native.Mathlib.Numerals.{add-one}
 use lib.ListN.{length, getD, drop, length-append, length-drop}
-use lib.Seq.{drop-cons, drop-length, append-snoc}
+use lib.Seq.{drop-cons, drop-length}
 use Rattle.paper.specs.declared.numbers.FoldSet.{FoldSet}
 use Rattle.paper.specs.Sets.{choose, listing, isSplit}
 use Rattle.paper.specs.Handed.{handed, listOf}
 use Rattle.paper.specs.Places.{placeOf}
 use Rattle.paper.proofs.Listing.{choose-room, entry-first, entry-second}
-use Rattle.paper.proofs.ListingMeaning.{Rises, rises-lower, isSplit-rises}
+use Rattle.paper.proofs.ListingMeaning.{Rises, isSplit-rises}
 use Rattle.paper.proofs.PlacesMeaning.{placeOf-entry}
-use Rattle.sets.specs.Work.{Tidy, Rest, Tail, Place}
+use Rattle.sets.specs.Work.{Rest, Tail, Place}
 use Rattle.sets.proofs.TableLaws.{choose-fits}
 use Rattle.sets.proofs.HandedLaws.{listOf-handed, handed-tidy, listOf-at}
 

@@ -1,15 +1,14 @@
 -- One step down the remaining folds on the way to the p-th set that holds g: into the part with the first fold, or past it.
-use mathlib.Core.Path.{_≡_, refl, sym, ap, _∙_}
+use mathlib.Core.Path.{_≡_}
 use mathlib.Core.Logic.{_≢_}
 use Prim.Native.Nat.{ℕ, zero, suc, _+_, _-_, _≤_, _<_, _^_}
 use native.Mathlib.Nat.{not-suc-le-zero}
 use native.Mathlib.Omega.{arith}
 use native.Mathlib.Numerals.{add-one}
-use lib.ListN.{length}
 use Rattle.paper.specs.Sets.{choose, listing}
-use Rattle.paper.specs.Paths.{paths, splitOnPath}
+use Rattle.paper.specs.Paths.{paths}
 use Rattle.paper.proofs.Listing.{hold, hold-pascal, hold-choose, listing-length}
-use Rattle.paper.proofs.PathsMeaning.{Pth, pth-here, pth-first, pth-second, nth-pth}
+use Rattle.paper.proofs.PathsMeaning.{Pth, pth-here, pth-first, pth-second}
 use Rattle.sets.specs.Work.{Ahead}
 use Rattle.sets.proofs.TableLaws.{choose-fits}
 

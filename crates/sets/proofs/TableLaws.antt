@@ -1,7 +1,7 @@
 -- The table of binomials: its rule, tested once over the whole table, and carried to C(n,k).
 -- The rows are those of paper's Rows, one after another. Where the code's table meets `triangle`, antt makes the 2,145 sums
 -- and compares them with the 2,145 numbers of the source.
-use mathlib.Core.Path.{_≡_, refl, sym, ap, _∙_}
+use mathlib.Core.Path.{_≡_, refl, ap, _∙_}
 use mathlib.Core.Bool.{Bool, true, not, _&&_}
 use mathlib.Core.List.{List, [], _∷_, _++_}
 use Prim.Native.Nat.{ℕ, zero, suc, _+_, _*_, _/_, _^_, _≤_, _<_}

@@ -8,7 +8,7 @@ ghost use mathlib.Core.Path.{_≡_};
 ghost use mathlib.Core.Bool.{true};
 ghost use mathlib.Core.List.{[], _∷_, _++_};
 ghost use Prim.Native.Nat.{_≤_, _<_, _+_};
-ghost use lib.ListN.{length, getD, drop};
+ghost use lib.ListN.{getD, drop};
 ghost use Rattle.paper.specs.Sets.{choose, listing, entry, isSplit};
 ghost use Rattle.paper.specs.Handed.{handed, listOf};
 ghost use Rattle.paper.specs.Places.{placeOf};

@@ -19,35 +19,67 @@ fn more_walks() {
     walk::show_walk(64, 1);
 }
 
-// The largest k that is accepted: the first, a middle and the last split and path, and those past the last.
-fn splits_of_62() {
-    lines::show_count(62, 31);
-    lines::show_split(62, 31, 0);
-    lines::show_split(62, 31, 232714176627630544);
-    lines::show_split(62, 31, 465428353255261087);
-    lines::show_split(62, 31, 465428353255261088);
+// The first, a middle and the last split, and the number past it.
+fn splits_of(n: usize, k: usize, middle: u64, last: u64, past: u64) {
+    lines::show_count(n, k);
+    lines::show_split(n, k, 0);
+    lines::show_split(n, k, middle);
+    lines::show_split(n, k, last);
+    lines::show_split(n, k, past);
 }
 
-fn paths_of_62() {
-    lines::show_path(62, 31, 0);
-    lines::show_path(62, 31, 232714176627630543);
-    lines::show_path(62, 31, 232714176627630544);
+// The first, a middle and the last path, and the number past it.
+fn paths_of(n: usize, k: usize, middle: u64, last: u64, past: u64) {
+    lines::show_path(n, k, 0);
+    lines::show_path(n, k, middle);
+    lines::show_path(n, k, last);
+    lines::show_path(n, k, past);
 }
 
-fn edges_of_63() {
-    lines::show_count(63, 28);
-    lines::show_split(63, 28, 0);
-    lines::show_split(63, 28, 400000000000000000);
-    lines::show_split(63, 28, 629308289804197436);
-    lines::show_path(63, 28, 279692573246309971);
-}
-
-fn edges_of_64() {
-    lines::show_count(64, 26);
-    lines::show_split(64, 26, 0);
-    lines::show_split(64, 26, 500000000000000000);
-    lines::show_split(64, 26, 601557853127198687);
-    lines::show_path(64, 26, 244382877832924466);
+// The largest k that are accepted.
+fn edges() {
+    splits_of(
+        62,
+        31,
+        232714176627630544,
+        465428353255261087,
+        465428353255261088,
+    );
+    paths_of(
+        62,
+        31,
+        100000000000000000,
+        232714176627630543,
+        232714176627630544,
+    );
+    splits_of(
+        63,
+        28,
+        400000000000000000,
+        629308289804197436,
+        629308289804197437,
+    );
+    paths_of(
+        63,
+        28,
+        123456789012345678,
+        279692573246309971,
+        279692573246309972,
+    );
+    splits_of(
+        64,
+        26,
+        500000000000000000,
+        601557853127198687,
+        601557853127198688,
+    );
+    paths_of(
+        64,
+        26,
+        200000000000000000,
+        244382877832924466,
+        244382877832924467,
+    );
 }
 
 fn refusals() {
@@ -67,20 +99,14 @@ fn more_refusals() {
 
 fn paths_of_4() {
     lines::show_count(4, 2);
-    lines::show_path(4, 2, 0);
-    lines::show_path(4, 2, 1);
-    lines::show_path(4, 2, 2);
-    lines::show_path(4, 2, 3);
+    paths_of(4, 2, 1, 2, 3);
 }
 
 fn main() {
     walks();
     more_walks();
     paths_of_4();
-    splits_of_62();
-    paths_of_62();
-    edges_of_63();
-    edges_of_64();
+    edges();
     refusals();
     more_refusals();
 }

@@ -1,6 +1,5 @@
 use borrow.Author.Needs.{needs}
-use mathlib.Core.Path.{_≡_, sym, ap, _∙_}
-use Rattle.paper.specs.Refusals.{done}
+use mathlib.Core.Path.{sym, _∙_}
 use Rattle.paper.specs.Checks.{splitChecks}
 use Rattle.checks.specs.declared.checked.Checked.{Checked}
 use Rattle.checks.proofs.ChainLaws.{then-fine, fine-gives, bad-gives}

@@ -1,5 +1,5 @@
 use borrow.Author.Needs.{needs}
-use mathlib.Core.Path.{_≡_, sym, ap, _∙_}
+use mathlib.Core.Path.{sym, ap, _∙_}
 use Rattle.paper.specs.Refusals.{done}
 use Rattle.paper.specs.Checks.{numbersChecks}
 use Rattle.checks.specs.declared.checked.Checked.{Checked}

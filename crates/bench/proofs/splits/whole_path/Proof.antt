@@ -1,5 +1,5 @@
 use borrow.Author.Needs.{needs}
-use mathlib.Core.Path.{_≡_, refl, sym, _∙_}
+use mathlib.Core.Path.{refl, sym, _∙_}
 use Rattle.paper.specs.Paths.{pathOf}
 use Rattle.paper.specs.Checks.{wholePathChecks}
 use Rattle.checks.specs.declared.checked.Checked.{Checked}

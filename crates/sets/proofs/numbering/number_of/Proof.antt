@@ -1,4 +1,3 @@
-use borrow.Author.Needs.{needs}
 use Rattle.sets.proofs.NumberingLaws.{tail-start, place-number}
 use Rattle.sets.proofs.numbering.number_of.Statement.{statement}
 use Rattle.sets.proofs.numbering.number_of.Tie as tie
