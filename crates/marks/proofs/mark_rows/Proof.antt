@@ -40,7 +40,12 @@ few c i n h a = record { train = omega arith; test = omega arith; purged = omega
 
 loop-holds : tie.Need-loop-holds Inv-loop μ-loop
 loop-holds c =
-    record { within = omega arith; long = search needs; done = tab-none _ (c .before .before .args .marks .now); counted = c .no-counts .ensures ∙ sym (countsOf-zero _) }
+    record {
+      within = omega arith;
+      long = search needs;
+      done = tab-none _ (c .before .before .args .marks .now);
+      counted = c .no-counts .ensures ∙ sym (countsOf-zero _);
+    }
 
 one-more-requires : tie.Need-one-more-requires Inv-loop μ-loop
 one-more-requires c κs =
@@ -68,5 +73,6 @@ returns c =
 pub mark-rows-spec : {M : Type 1} → statement M
 mark-rows-spec =
     tie.close
-    (tie.spec Inv-loop μ-loop (λ c κs. search needs) loop-holds (λ c κs. (c .before .before .before .before .pre .1, omega arith)) (λ c. search needs) one-more-requires
+    (tie.spec Inv-loop μ-loop (λ c κs. search needs) loop-holds
+    (λ c κs. (c .before .before .before .before .pre .1, omega arith)) (λ c. search needs) one-more-requires
     (λ c. search needs) (λ c. search needs) loop-again (λ c. search needs) returns)

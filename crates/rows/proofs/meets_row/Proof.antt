@@ -18,8 +18,11 @@ abbrev μ-loop : tie.MeasureT-loop
 μ-loop starts ends a b e i₀ i = e - i
 
 loop-holds : tie.Need-loop-holds Inv-loop μ-loop
-loop-holds c =
-    (search needs, search needs, anyFrom-zero (meetsAt (table (c .args .starts .now) (c .args .ends .now)) (c .args .a)) (c .args .b))
+loop-holds c = (
+  search needs,
+  search needs,
+  anyFrom-zero (meetsAt (table (c .args .starts .now) (c .args .ends .now)) (c .args .a)) (c .args .b),
+)
 
 returns : tie.Need-returns Inv-loop μ-loop
 returns c =
@@ -27,8 +30,8 @@ returns c =
     let g = l .before .args in
     let here = rw (c .before .before .row-span .ensures) at (c .before .intervals-overlap .ensures) in
     sym
-    (anyFrom-here (meetsAt (table (g .starts .now) (g .ends .now)) (g .a)) (g .b) (g .e) (l .loop .i) (l .loop .inv .0) (omega arith)
-    (sym here ∙ c .if1 .taken))
+    (anyFrom-here (meetsAt (table (g .starts .now) (g .ends .now)) (g .a)) (g .b) (g .e) (l .loop .i) (l .loop .inv .0)
+    (omega arith) (sym here ∙ c .if1 .taken))
 
 loop-again : tie.Need-loop-again Inv-loop μ-loop
 loop-again c =

@@ -47,5 +47,6 @@ returns-2 c =
 pub purged-spec : {M : Type 1} → statement M
 purged-spec =
     tie.close
-    (tie.spec Inv-loop μ-loop (λ c. (search needs, any-zero _)) (λ c κs. search needs) (λ c. search needs) (λ c. search needs)
-    (λ c. search needs) (λ c. search needs) hit-requires returns (λ c. search needs) (λ c. search needs) loop-again returns-2)
+    (tie.spec Inv-loop μ-loop (λ c. (search needs, any-zero _)) (λ c κs. search needs) (λ c. search needs)
+    (λ c. search needs) (λ c. search needs) (λ c. search needs) hit-requires returns (λ c. search needs)
+    (λ c. search needs) loop-again returns-2)
