@@ -4,6 +4,7 @@ use mathlib.Core.Path.{_≡_}
 use mathlib.Core.Bool.{not}
 use mathlib.Core.List.{List}
 use Prim.Native.Nat.{ℕ, _+_, _-_, _≤_, _<_}
+use lib.Dec.{leb}
 use lib.IntN.{ℤ, pos}
 use lib.ListN.{length, getD}
 use Rattle.lists.specs.Base.{firstFrom, over}
@@ -12,6 +13,7 @@ use Rattle.paper.specs.Blocks.{latest}
 use Rattle.paper.specs.Embargo.{embargoFrom}
 use Rattle.paper.specs.Marks as marks
 use Rattle.paper.proofs.Times.{earlier}
+use Rattle.laws.specs.Worker.{rangedSplit}
 use Rattle.blocks.specs.declared.Rule.{Rule}
 use Rattle.blocks.specs.declared.Rule.the-variants.{Window, Pair}
 
@@ -26,6 +28,10 @@ nth l j = getD l j 0
 
 abbrev pub time : List ℤ → ℕ → ℤ
 time l j = getD l j (pos 0)
+
+-- The split that tests the first k of the ranges held in two arrays. Rows from `used` on take no part.
+abbrev pub arraySplit : List ℕ → List ℕ → ℕ → ℕ → ℕ → marks.Split
+arraySplit from to k used width = rangedSplit (nth from) (nth to) k (leb used) width
 
 -- The first row from e on that starts after `end`: with a block's latest end, `embargoFrom`.
 abbrev pub stepsTo : List ℤ → ℤ → ℕ → ℕ

@@ -25,7 +25,8 @@ use Rattle.marks.specs.Accepted.{Written}
 use Rattle.layouts.specs.Tested.{oneRange, forwardFold, crossSet, FoldIn, SetIn, RangesOf}
 
 -- The same list under another name.
-pub rewritten : (due other marks : List ℕ) (counts : Counts) → due ≡ other → Written due marks counts → Written other marks counts
+pub rewritten :
+    (due other marks : List ℕ) (counts : Counts) → due ≡ other → Written due marks counts → Written other marks counts
 rewritten due other marks counts e w = rw (sym e) w
 
 -- ---- one range

@@ -27,7 +27,9 @@ way-same :
 way-same Window starts ends g s = refl
 way-same Pair starts ends g s = go (startsFall starts) refl
   where
-    go : (f : Bool) → startsFall starts ≡ f → marksOf (ruleOf (wayOf Pair (startsFall starts))) (table starts ends) s ≡ marksOf (ruleOf Pair) (table starts ends) s
+    go :
+        (f : Bool) → startsFall starts ≡ f →
+        marksOf (ruleOf (wayOf Pair (startsFall starts))) (table starts ends) s ≡ marksOf (ruleOf Pair) (table starts ends) s
     go true e = rw e
     go false e = rw e (agreement g (ordered-table (table starts ends) e) s)
 
@@ -37,12 +39,14 @@ split-same :
     rangedSplit B E m unused width ≡ rangedSplit F G k unused width
 split-same j unused width = ap (λ t. record { test = t; unused = unused; width = width }) (fun-ext (λ i. sym (j .same i)))
 
-module _ (starts ends : List ℤ) {F G B E : ℕ → ℕ} {k m : ℕ} (g : Good (table starts ends)) (j : Joined F G k B E m (length starts)) where
-  pub blocks-written :
-      (r by : Rule) (unused : Rows) (width : ℕ) (marks : List ℕ) (counts : Counts) → by ≡ wayOf r (startsFall starts) →
-      Written (marksOf (ruleOf by) (table starts ends) (rangedSplit B E m unused width)) marks counts →
-      Written (marksOf (ruleOf r) (table starts ends) (rangedSplit F G k unused width)) marks counts
-  blocks-written r by unused width marks counts e w = rw (sym same) w
-    where
-      same : marksOf (ruleOf by) (table starts ends) (rangedSplit B E m unused width) ≡ marksOf (ruleOf r) (table starts ends) (rangedSplit F G k unused width)
-      same = rw e (way-same r starts ends g (rangedSplit B E m unused width) ∙ ap (marksOf (ruleOf r) (table starts ends)) (split-same j unused width))
+pub blocks-written :
+    (starts ends : List ℤ) {F G B E : ℕ → ℕ} {k m : ℕ} → Good (table starts ends) → Joined F G k B E m (length starts) →
+    (r by : Rule) (unused : Rows) (width : ℕ) (marks : List ℕ) (counts : Counts) → by ≡ wayOf r (startsFall starts) →
+    Written (marksOf (ruleOf by) (table starts ends) (rangedSplit B E m unused width)) marks counts →
+    Written (marksOf (ruleOf r) (table starts ends) (rangedSplit F G k unused width)) marks counts
+blocks-written starts ends g j r by unused width marks counts e w =
+    let T = table starts ends in
+    let same =
+    way-same r starts ends g (rangedSplit _ _ _ unused width) ∙ ap (marksOf (ruleOf r) T) (split-same j unused width)
+    in
+    rw (sym same) (rw e at w)

@@ -7,13 +7,11 @@
 // - the overlap count is a call of its own.
 ghost use mathlib.Core.Path.{_≡_};
 ghost use Prim.Native.Nat.{_≤_};
-ghost use lib.Dec.{leb};
 ghost use lib.ListN.{length};
 ghost use Rattle.paper.specs.Spans.{table};
 ghost use Rattle.paper.specs.Marks.{marksOf};
-ghost use Rattle.laws.specs.Worker.{rangedSplit};
 ghost use Rattle.scans.specs.Falls.{startsFall};
-ghost use Rattle.blocks.specs.Held.{ruleOf, nth, Blocks};
+ghost use Rattle.blocks.specs.Held.{ruleOf, nth, arraySplit, Blocks};
 ghost use Rattle.rows.specs.Asked.{Held};
 ghost use Rattle.marks.specs.Accepted.{Accepted, Markable, Written};
 ghost use Rattle.marks.specs.Ways.{wayOf};
@@ -42,7 +40,7 @@ pub fn mark_ranges(
     marks: &mut [u8],
 ) -> Counts
     requires { ⌜ Markable (now starts) (now ends) (nth (now from)) (nth (now to)) count (now marks) ⌝ }
-    ensures { λ r. ⌜ Written (marksOf (ruleOf rule) (table (now (starts .entry)) (now (ends .entry))) (rangedSplit (nth (now (from .entry))) (nth (now (to .entry))) count (leb used) width)) (now (marks .exit)) r ⌝ }
+    ensures { λ r. ⌜ Written (marksOf (ruleOf rule) (table (now (starts .entry)) (now (ends .entry))) (arraySplit (now (from .entry)) (now (to .entry)) count used width)) (now (marks .exit)) r ⌝ }
 {
     let mut first = [0usize; 64];
     let mut past = [0usize; 64];
@@ -81,7 +79,7 @@ fn mark_blocks(
 ) -> Counts
     requires { ⌜ Accepted (now starts) (now ends) (now marks) ⌝ }
     requires { ⌜ (blocks ≤ 64) × Blocks (nth (now first)) (nth (now past)) blocks (length (now starts)) ⌝ }
-    ensures { λ r. ⌜ Written (marksOf (ruleOf rule) (table (now (starts .entry)) (now (ends .entry))) (rangedSplit (nth (now (first .entry))) (nth (now (past .entry))) blocks (leb used) width)) (now (marks .exit)) r ⌝ }
+    ensures { λ r. ⌜ Written (marksOf (ruleOf rule) (table (now (starts .entry)) (now (ends .entry))) (arraySplit (now (first .entry)) (now (past .entry)) blocks used width)) (now (marks .exit)) r ⌝ }
 {
     let mut lo = [0i64; 64];
     let mut hi = [0i64; 64];
@@ -130,7 +128,7 @@ fn mark_rows(
 ) -> Counts
     requires { ⌜ Accepted (now starts) (now ends) (now marks) ⌝ }
     requires { ⌜ Held rule (now starts) (now ends) (nth (now first)) (nth (now past)) blocks (now lo) (now hi) (nth (now embargo)) ⌝ }
-    ensures { λ r. ⌜ Written (marksOf (ruleOf rule) (table (now (starts .entry)) (now (ends .entry))) (rangedSplit (nth (now (first .entry))) (nth (now (past .entry))) blocks (leb used) width)) (now (marks .exit)) r ⌝ }
+    ensures { λ r. ⌜ Written (marksOf (ruleOf rule) (table (now (starts .entry)) (now (ends .entry))) (arraySplit (now (first .entry)) (now (past .entry)) blocks used width)) (now (marks .exit)) r ⌝ }
 {
     let mut counts = no_counts();
     let mut i = 0;

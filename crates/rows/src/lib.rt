@@ -8,15 +8,14 @@
 ghost use mathlib.Core.Path.{_≡_};
 ghost use mathlib.Core.Bool.{false};
 ghost use Prim.Native.Nat.{_≤_, _<_};
-ghost use lib.Dec.{leb};
 ghost use lib.ListN.{length};
 ghost use Rattle.lists.specs.Base.{anyFrom};
 ghost use Rattle.paper.specs.Spans.{spanOf, table};
 ghost use Rattle.paper.specs.Folds.{within};
 ghost use Rattle.paper.specs.Marks.{mark, markOf};
 ghost use Rattle.laws.specs.Ranges.{ranged};
-ghost use Rattle.laws.specs.Worker.{covers, rangedSplit};
-ghost use Rattle.blocks.specs.Held.{ruleOf, nth, Blocks};
+ghost use Rattle.laws.specs.Worker.{covers};
+ghost use Rattle.blocks.specs.Held.{ruleOf, nth, arraySplit, Blocks};
 ghost use Rattle.rows.specs.Asked.{meetsAt, hitBy, purgedBy, coveredBy, Held};
 use blocks::Rule;
 use paper::Span;
@@ -169,7 +168,7 @@ pub fn row_mark(
 ) -> u8
     requires { ⌜ Held rule (now starts) (now ends) (nth (now first)) (nth (now past)) blocks (now lo) (now hi) (nth (now embargo)) ⌝ }
     requires { ⌜ i < length (now starts) ⌝ }
-    ensures { λ r. ⌜ r ≡ markOf (ruleOf rule) (table (now (starts .entry)) (now (ends .entry))) (rangedSplit (nth (now (first .entry))) (nth (now (past .entry))) blocks (leb used) width) i ⌝ }
+    ensures { λ r. ⌜ r ≡ markOf (ruleOf rule) (table (now (starts .entry)) (now (ends .entry))) (arraySplit (now (first .entry)) (now (past .entry)) blocks used width) i ⌝ }
 {
     if tested(first, past, blocks, i) {
         return 1;

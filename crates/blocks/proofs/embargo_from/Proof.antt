@@ -22,11 +22,15 @@ use Rattle.blocks.proofs.embargo_from.Tie as tie
 abbrev after : List ℤ → ℤ → ℕ → Bool
 after starts latest i = not (reaches (time starts i) latest)
 
-after-yes : (l s : ℤ) → mag l < 2 ^ 63 → mag s < 2 ^ 63 → ltZ (toZ w64 (ofZ w64 l)) (toZ w64 (ofZ w64 s)) ≡ true → not (reaches s l) ≡ true
+after-yes :
+    (l s : ℤ) → mag l < 2 ^ 63 → mag s < 2 ^ 63 → ltZ (toZ w64 (ofZ w64 l)) (toZ w64 (ofZ w64 s)) ≡ true →
+    not (reaches s l) ≡ true
 unfolding reaches
 after-yes l s h k t = ap not (ltZ-above l s (sym (lt-read l s h k) ∙ t))
 
-after-no : (l s : ℤ) → mag l < 2 ^ 63 → mag s < 2 ^ 63 → ltZ (toZ w64 (ofZ w64 l)) (toZ w64 (ofZ w64 s)) ≡ false → not (reaches s l) ≡ false
+after-no :
+    (l s : ℤ) → mag l < 2 ^ 63 → mag s < 2 ^ 63 → ltZ (toZ w64 (ofZ w64 l)) (toZ w64 (ofZ w64 s)) ≡ false →
+    not (reaches s l) ≡ false
 unfolding reaches
 after-no l s h k t = ap not (ltZ-not l s (sym (lt-read l s h k) ∙ t))
 

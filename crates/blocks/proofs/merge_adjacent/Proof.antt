@@ -1,19 +1,19 @@
 -- Each range is joined to the blocks of those before it: `joins-more`.
-use mathlib.Core.Path.{_≡_, _∙_}
-use Prim.Native.Nat.{_-_, _≤_, _<_}
+use mathlib.Core.Path.{_≡_}
+use Prim.Native.Nat.{_-_, _≤_}
 use native.Mathlib.Omega.{arith}
 use lib.ListN.{length}
-use lib.Seq.{getD-set-same, getD-set-other}
 use borrow.Author.Needs.{needs}
 use Rattle.blocks.specs.Held.{nth}
 use Rattle.blocks.specs.Joined.{Joins}
-use Rattle.blocks.proofs.JoinLaws.{joins-none, joins-more}
+use Rattle.blocks.proofs.JoinLaws.{filled-set, joins-none, joins-more}
 use Rattle.blocks.proofs.merge_adjacent.Statement.{statement}
 use Rattle.blocks.proofs.merge_adjacent.Tie as tie
 
 abbrev Inv-loop : tie.InvT-loop
 Inv-loop from to count first₀ past₀ blocks₀ j₀ first past blocks j =
-    (j ≤ count) × (blocks ≤ j) × (length first ≡ 64) × (length past ≡ 64) × Joins (nth from) (nth to) j (nth first) (nth past) blocks
+    (j ≤ count) × (blocks ≤ j) × (length first ≡ 64) × (length past ≡ 64)
+    × Joins (nth from) (nth to) j (nth first) (nth past) blocks
 
 abbrev μ-loop : tie.MeasureT-loop
 μ-loop from to count first₀ past₀ blocks₀ j₀ first past blocks j = count - j
@@ -25,17 +25,13 @@ loop-again : tie.Need-loop-again Inv-loop μ-loop
 loop-again c =
     let b = c .before .before .before .before in
     let l = b .before .before .before .before .loop in
-    let g = b .before .before .before .before .before .args in
-    let at = b .place .result in
-    let in-first : at < length (l .first) = omega arith in
-    let in-past : at < length (l .past) = omega arith in (
+    let at = b .place .result in (
       search needs,
       search needs,
       search needs,
       search needs,
-      joins-more (nth (g .from .now)) (nth (g .to .now)) (l .j) (nth (l .first)) (nth (l .past)) _ _ (l .blocks) at (b .place .ensures .0)
-          (λ t h. getD-set-other (l .first) at t _ 0 (λ e. omega arith)) (λ t h. getD-set-other (l .past) at t _ 0 (λ e. omega arith))
-          (getD-set-same (l .past) at _ 0 in-past) (getD-set-same (l .first) at _ 0 in-first ∙ c .before .begin .ensures) (l .inv .4),
+      joins-more (b .place .ensures .0) (rw (c .before .begin .ensures) (filled-set (l .first) at _ (omega arith)))
+          (filled-set (l .past) at _ (omega arith)) (l .inv .4),
     )
 
 returns : tie.Need-returns Inv-loop μ-loop

@@ -10,7 +10,8 @@ returns c =
     let b = c .before in
     let f = b .before .before in
     let s = f .before in
-    bounds-first (s .args .n) (s .args .folds) (s .args .fold .0) (s .pre) _ _ (sym (f .contiguous-fold-bounds .ensures) ∙ b .b .given .1)
+    bounds-first (s .args .n) (s .args .folds) (s .args .fold .0) (s .pre) _ _
+    (sym (f .contiguous-fold-bounds .ensures) ∙ b .b .given .1)
 
 returns-2 : tie.Need-returns-2
 returns-2 c =
@@ -21,6 +22,4 @@ returns-2 c =
     (sym (f .contiguous-fold-bounds .ensures) ∙ c .enum-told .given .1))
 
 pub first-row-spec : {M : Type 1} → statement M
-first-row-spec =
-    tie.close
-    (tie.spec (λ c κs. search needs) (λ c. search needs) (λ c. search needs) returns returns-2)
+first-row-spec = tie.close (tie.spec (λ c κs. search needs) (λ c. search needs) (λ c. search needs) returns returns-2)

@@ -16,13 +16,19 @@ use Rattle.layouts.proofs.fold_ranges.Tie as tie
 
 abbrev Inv-loop : tie.InvT-loop
 Inv-loop n folds from₀ to₀ list count j₀ from to j =
-    (j ≤ count) × (length from ≡ 64) × (length to ≡ 64) × RangesOf n folds (record { folds = list; count = count }) (nth from) (nth to) j
+    (j ≤ count) × (length from ≡ 64) × (length to ≡ 64)
+    × RangesOf n folds (record { folds = list; count = count }) (nth from) (nth to) j
 
 abbrev μ-loop : tie.MeasureT-loop
 μ-loop n folds from₀ to₀ list count j₀ from to j = count - j
 
 loop-holds : tie.Need-loop-holds Inv-loop μ-loop
-loop-holds c = (search needs, search needs, search needs, record { begin = λ k h. absurd (omega arith); end = λ k h. absurd (omega arith) })
+loop-holds c = (
+  search needs,
+  search needs,
+  search needs,
+  record { begin = λ k h. absurd (omega arith); end = λ k h. absurd (omega arith) },
+)
 
 first-row-requires : tie.Need-first-row-requires Inv-loop μ-loop
 first-row-requires c κs =

@@ -13,7 +13,8 @@ mark-range-requires c κs =
     let p = c .before in
     let s = p .before .before .before in (
       s .pre .0,
-      rw (p .row-past .ensures, p .before .first-row .ensures) (fold-fits (length (s .args .starts .now)) (s .args .folds) (s .args .fold .0) (s .pre .1)),
+      rw (p .row-past .ensures, p .before .first-row .ensures)
+          (fold-fits (length (s .args .starts .now)) (s .args .folds) (s .args .fold .0) (s .pre .1)),
     )
 
 returns : tie.Need-returns
@@ -22,11 +23,10 @@ returns c =
     let p = m .before .before in
     let s = p .before .before .before in
     rewritten _ _ _ _
-    (kfold-marks (length (s .args .starts .now)) (s .args .folds) (s .args .fold .0) (s .pre .1) _ _ (p .before .first-row .ensures)
-    (p .row-past .ensures) (ruleOf (s .args .rule)) (table (s .args .starts .now) (s .args .ends .now)) (s .args .width) refl)
+    (kfold-marks (length (s .args .starts .now)) (s .args .folds) (s .args .fold .0) (s .pre .1) _ _
+    (p .before .first-row .ensures) (p .row-past .ensures) (ruleOf (s .args .rule)) (table (s .args .starts .now) (s .args .ends .now)) (s .args .width) refl)
     (m .mark-range .ensures)
 
 pub mark-fold-spec : {M : Type 1} → statement M
 mark-fold-spec =
-    tie.close
-    (tie.spec (λ c κs. search needs) (λ c κs. search needs) mark-range-requires (λ c. search needs) returns)
+    tie.close (tie.spec (λ c κs. search needs) (λ c κs. search needs) mark-range-requires (λ c. search needs) returns)

@@ -19,9 +19,9 @@ returns c =
     let f = m .before .before .before .before in
     let s = f .before .before .before .before in
     rewritten _ _ _ _
-    (set-marks (s .pre .1) (f .fold-ranges .ensures) (ruleOf (s .args .rule)) (table (s .args .starts .now) (s .args .ends .now)) (s .args .width) refl)
+    (set-marks (s .pre .1) (f .fold-ranges .ensures) (ruleOf (s .args .rule))
+    (table (s .args .starts .now) (s .args .ends .now)) (s .args .width) refl)
     (m .mark-ranges .ensures)
 
 pub mark-folds-spec : {M : Type 1} → statement M
-mark-folds-spec =
-    tie.close (tie.spec (λ c κs. search needs) mark-ranges-requires (λ c. search needs) returns)
+mark-folds-spec = tie.close (tie.spec (λ c κs. search needs) mark-ranges-requires (λ c. search needs) returns)

@@ -15,7 +15,8 @@ mark-ranges-requires c κs =
     record {
       table = s .pre .0;
       few = omega arith;
-      ranges = one-ranges _ _ (s .args .b) (s .args .e) refl refl (length (s .args .starts .now)) (s .pre .1 .0) (s .pre .1 .1);
+      ranges =
+          one-ranges _ _ (s .args .b) (s .args .e) refl refl (length (s .args .starts .now)) (s .pre .1 .0) (s .pre .1 .1);
     }
 
 returns : tie.Need-returns
@@ -23,7 +24,8 @@ returns c =
     let m = c .before .before in
     let s = m .before .before .before .before .before in
     rewritten _ _ _ _
-    (one-marks _ _ (s .args .b) (s .args .e) refl refl (ruleOf (s .args .rule)) (table (s .args .starts .now) (s .args .ends .now)) (s .args .used) (s .args .width))
+    (one-marks _ _ (s .args .b) (s .args .e) refl refl (ruleOf (s .args .rule))
+    (table (s .args .starts .now) (s .args .ends .now)) (s .args .used) (s .args .width))
     (m .mark-ranges .ensures)
 
 pub mark-range-spec : {M : Type 1} → statement M

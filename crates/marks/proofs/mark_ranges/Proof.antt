@@ -9,7 +9,8 @@ mark-blocks-requires : tie.Need-mark-blocks-requires
 mark-blocks-requires c κs =
     let m = c .before .before .before .before in
     let p = m .before .before .before .before .pre in
-    (p .table, (omega (arith, p .few, m .merge-adjacent .ensures .few), m .merge-adjacent .ensures .joined _ (p .ranges) .blocks))
+    let j = m .merge-adjacent .ensures in
+    (p .table, (omega (arith, p .few, j .few), j .joined _ (p .ranges) .blocks))
 
 returns : tie.Need-returns
 returns c =
@@ -17,8 +18,8 @@ returns c =
     let y = w .before .before .before .before in
     let m = y .before in
     let s = m .before .before .before .before in
-    blocks-written (s .args .starts .now) (s .args .ends .now) (s .pre .table .good) (m .merge-adjacent .ensures .joined _ (s .pre .ranges)) (s .args .rule) _ _ _ _ _
-    (y .way .ensures) (w .mark-blocks .ensures)
+    blocks-written (s .args .starts .now) (s .args .ends .now) (s .pre .table .good)
+    (m .merge-adjacent .ensures .joined _ (s .pre .ranges)) (s .args .rule) _ _ _ _ _ (y .way .ensures) (w .mark-blocks .ensures)
 
 pub mark-ranges-spec : {M : Type 1} → statement M
 mark-ranges-spec =

@@ -3,7 +3,6 @@ use mathlib.Core.Path.{_≡_, sym, _∙_}
 use mathlib.Core.List.{List}
 use Prim.Native.Nat.{ℕ, _-_, _≤_, _<_}
 use native.Mathlib.Omega.{arith}
-use lib.Dec.{leb}
 use lib.IntN.{ℤ}
 use lib.ListN.{length, take, length-set}
 use borrow.Author.Needs.{needs}
@@ -12,10 +11,9 @@ use Rattle.lists.specs.TabLaws.{tab-none, tab-more, tab-all}
 use Rattle.paper.specs.declared.answers.Counts.{Counts}
 use Rattle.paper.specs.Spans.{table}
 use Rattle.paper.specs.Marks.{markOf, countsOf}
-use Rattle.laws.specs.Worker.{rangedSplit}
 use Rattle.laws.specs.MarkCounts.{AtMost, countsOf-zero, countsOf-more, countsOf-le}
 use Rattle.blocks.specs.declared.Rule.{Rule}
-use Rattle.blocks.specs.Held.{ruleOf, nth}
+use Rattle.blocks.specs.Held.{ruleOf, arraySplit}
 use Rattle.marks.proofs.mark_rows.Statement.{statement}
 use Rattle.marks.proofs.mark_rows.Tie as tie
 
@@ -28,7 +26,7 @@ record Marked (f : ℕ → ℕ) (marks₀ marks : List ℕ) (counts : Counts) (i
 -- The mark that row i is due.
 abbrev due : Rule → List ℤ → List ℤ → List ℕ → List ℕ → ℕ → ℕ → ℕ → ℕ → ℕ
 due rule starts ends first past blocks used width =
-    markOf (ruleOf rule) (table starts ends) (rangedSplit (nth first) (nth past) blocks (leb used) width)
+    markOf (ruleOf rule) (table starts ends) (arraySplit first past blocks used width)
 
 abbrev Inv-loop : tie.InvT-loop
 Inv-loop rule starts ends first past lo hi embargo blocks used width marks₀ counts₀ i₀ marks counts i =
@@ -42,7 +40,12 @@ few c i n h a = record { train = omega arith; test = omega arith; purged = omega
 
 loop-holds : tie.Need-loop-holds Inv-loop μ-loop
 loop-holds c =
-    record { within = omega arith; long = search needs; done = tab-none _ (c .before .before .args .marks .now); counted = c .no-counts .ensures ∙ sym (countsOf-zero _) }
+    record {
+      within = omega arith;
+      long = search needs;
+      done = tab-none _ (c .before .before .args .marks .now);
+      counted = c .no-counts .ensures ∙ sym (countsOf-zero _);
+    }
 
 one-more-requires : tie.Need-one-more-requires Inv-loop μ-loop
 one-more-requires c κs =
@@ -70,5 +73,6 @@ returns c =
 pub mark-rows-spec : {M : Type 1} → statement M
 mark-rows-spec =
     tie.close
-    (tie.spec Inv-loop μ-loop (λ c κs. search needs) loop-holds (λ c κs. (c .before .before .before .before .pre .1, omega arith)) (λ c. search needs) one-more-requires
+    (tie.spec Inv-loop μ-loop (λ c κs. search needs) loop-holds
+    (λ c κs. (c .before .before .before .before .pre .1, omega arith)) (λ c. search needs) one-more-requires
     (λ c. search needs) (λ c. search needs) loop-again (λ c. search needs) returns)

@@ -10,5 +10,4 @@ returns-2 : tie.Need-returns-2
 returns-2 c = rw (lt-leb _ _ (c .if1 .left))
 
 pub inside-spec : {M : Type 1} → statement M
-inside-spec =
-    tie.close (tie.spec returns returns-2)
+inside-spec = tie.close (tie.spec returns returns-2)

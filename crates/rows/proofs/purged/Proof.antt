@@ -1,5 +1,5 @@
 -- A search over the blocks: none of those passed purges the row.
-use mathlib.Core.Path.{_≡_, sym, ap, _∙_}
+use mathlib.Core.Path.{_≡_, sym, _∙_}
 use mathlib.Core.Bool.{false}
 use Prim.Native.Nat.{_-_, _≤_}
 use native.Mathlib.Omega.{arith}
@@ -7,7 +7,7 @@ use borrow.Author.Needs.{needs}
 use Rattle.lists.specs.AnyLaws.{any-zero, any-here, any-miss}
 use Rattle.paper.specs.Spans.{spanOf, table}
 use Rattle.blocks.specs.Held.{nth}
-use Rattle.rows.specs.Asked.{hitBy, purgedBy}
+use Rattle.rows.specs.Asked.{purgedBy}
 use Rattle.rows.proofs.purged.Statement.{statement}
 use Rattle.rows.proofs.purged.Tie as tie
 
@@ -28,16 +28,14 @@ returns : tie.Need-returns Inv-loop μ-loop
 returns c =
     let b = c .before .before .before .before in
     let l = b .before .before in
-    let g = l .before .args in
-    let here = c .before .hit .ensures ∙ ap (λ x. hitBy (g .rule) (table (g .starts .now) (g .ends .now)) (g .a) x (nth (g .first .now) (l .loop .j)) (nth (g .past .now) (l .loop .j))) (b .bound .ensures) in
+    let here = rw (b .bound .ensures) at (c .before .hit .ensures) in
     sym (any-here _ _ (l .loop .j) (omega arith) (sym here ∙ c .if1 .taken))
 
 loop-again : tie.Need-loop-again Inv-loop μ-loop
 loop-again c =
     let b = c .before .before .before .before in
     let l = b .before .before in
-    let g = l .before .args in
-    let here = c .before .hit .ensures ∙ ap (λ x. hitBy (g .rule) (table (g .starts .now) (g .ends .now)) (g .a) x (nth (g .first .now) (l .loop .j)) (nth (g .past .now) (l .loop .j))) (b .bound .ensures) in
+    let here = rw (b .bound .ensures) at (c .before .hit .ensures) in
     (search needs, any-miss _ (l .loop .j) (l .loop .inv .1) (sym here ∙ c .if1 .left))
 
 returns-2 : tie.Need-returns-2 Inv-loop μ-loop
@@ -49,5 +47,6 @@ returns-2 c =
 pub purged-spec : {M : Type 1} → statement M
 purged-spec =
     tie.close
-    (tie.spec Inv-loop μ-loop (λ c. (search needs, any-zero _)) (λ c κs. search needs) (λ c. search needs) (λ c. search needs)
-    (λ c. search needs) (λ c. search needs) hit-requires returns (λ c. search needs) (λ c. search needs) loop-again returns-2)
+    (tie.spec Inv-loop μ-loop (λ c. (search needs, any-zero _)) (λ c κs. search needs) (λ c. search needs)
+    (λ c. search needs) (λ c. search needs) (λ c. search needs) hit-requires returns (λ c. search needs)
+    (λ c. search needs) loop-again returns-2)

@@ -1,13 +1,10 @@
 -- Each way out has the mark that `row-marked` gives for what was tested.
-use mathlib.Core.Path.{sym, ap, ap₂, _∙_}
+use mathlib.Core.Path.{sym, ap₂, _∙_}
 use mathlib.Core.Bool.{false}
 use lib.Dec.{leb}
 use borrow.Author.Needs.{needs}
 use borrow.Author.Tests.{le-leb, lt-leb}
-use Rattle.paper.specs.Spans.{spanOf, table}
 use Rattle.paper.specs.Marks.{mark}
-use Rattle.blocks.specs.Held.{nth}
-use Rattle.rows.specs.Asked.{purgedBy}
 use Rattle.rows.proofs.RowLaws.{row-marked}
 use Rattle.rows.proofs.row_mark.Statement.{statement}
 use Rattle.rows.proofs.row_mark.Tie as tie
@@ -45,14 +42,11 @@ returns-3 c =
     )
     (c .left-mark .ensures
     ∙ ap₂ (mark false false)
-    (p .purged .ensures
-    ∙ ap
-    (λ x. purgedBy (a .rule) (table (a .starts .now) (a .ends .now)) (nth (a .first .now)) (nth (a .past .now)) (spanOf (a .lo .now) (a .hi .now)) x (a .blocks))
-    (s .row-span .ensures))
+    (rw (s .row-span .ensures) at (p .purged .ensures))
     (e .embargoed .ensures))
 
 pub row-mark-spec : {M : Type 1} → statement M
 row-mark-spec =
     tie.close
-    (tie.spec (λ c κs. search needs) returns returns-2 (λ c κs. search needs) (λ c κs. search needs) (λ c κs. search needs)
-    (λ c κs. search needs) returns-3)
+    (tie.spec (λ c κs. search needs) returns returns-2 (λ c κs. search needs) (λ c κs. search needs)
+    (λ c κs. search needs) (λ c κs. search needs) returns-3)
