@@ -1,5 +1,4 @@
 // One line a call.
-use bench::splits;
 use libc::STDOUT_FILENO;
 use paper::Counted;
 use paper::FoldNumber;
@@ -9,6 +8,7 @@ use paper::Placed;
 use paper::Refusal;
 use paper::SplitNumber;
 use paper::Written;
+use split_calls::splits;
 
 pub fn number(n: u64) {
     io::write_all(STDOUT_FILENO, b" ");

@@ -1,12 +1,12 @@
 // From the first split to the last, each from the one before it.
 use crate::lines;
-use bench::splits;
 use libc::STDOUT_FILENO;
 use paper::Counted;
 use paper::FoldSet;
 use paper::Next;
 use paper::Placed;
 use paper::SplitNumber;
+use split_calls::splits;
 
 // The same folds in all 64 places, and as many.
 fn same(a: FoldSet, b: FoldSet) -> bool {

@@ -6,8 +6,8 @@ use Rattle.checks.specs.declared.checked.Checked.{Checked}
 use Rattle.checks.proofs.ChainLaws.{then-fine, fine-gives, bad-gives}
 use Rattle.checks.proofs.ReadyLaws.{numbers-ready}
 use Rattle.paper.specs.Sets.{choose}
-use Rattle.bench.proofs.splits.split_count.Statement.{statement}
-use Rattle.bench.proofs.splits.split_count.Tie as tie
+use Rattle.split_calls.proofs.splits.split_count.Statement.{statement}
+use Rattle.split_calls.proofs.splits.split_count.Tie as tie
 
 n-choose-k-requires : tie.Need-n-choose-k-requires
 n-choose-k-requires c κs =

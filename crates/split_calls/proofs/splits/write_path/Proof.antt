@@ -6,8 +6,8 @@ use lib.ListN.{length, take, length-set}
 use Rattle.lists.specs.Base.{tab}
 use Rattle.lists.specs.TabLaws.{tab-none, tab-more, tab-all}
 use Rattle.paper.specs.Paths.{splitOnPath}
-use Rattle.bench.proofs.splits.write_path.Statement.{statement}
-use Rattle.bench.proofs.splits.write_path.Tie as tie
+use Rattle.split_calls.proofs.splits.write_path.Statement.{statement}
+use Rattle.split_calls.proofs.splits.write_path.Tie as tie
 
 abbrev Inv-loop : tie.InvT-loop
 Inv-loop n k p out₀ g₀ out g = (g ≤ n) × (length out ≡ n) × (take g out ≡ tab (splitOnPath n k p) g)

@@ -7,8 +7,8 @@ use Rattle.checks.proofs.ChainLaws.{then-fine, fine-gives, bad-gives}
 use Rattle.checks.proofs.ReadyLaws.{set-ready}
 use Rattle.paper.specs.Handed.{listOf}
 use Rattle.paper.specs.Places.{placeOf}
-use Rattle.bench.proofs.splits.number_of_folds.Statement.{statement}
-use Rattle.bench.proofs.splits.number_of_folds.Tie as tie
+use Rattle.split_calls.proofs.splits.number_of_folds.Statement.{statement}
+use Rattle.split_calls.proofs.splits.number_of_folds.Tie as tie
 
 number-of-requires : tie.Need-number-of-requires
 number-of-requires c κs =

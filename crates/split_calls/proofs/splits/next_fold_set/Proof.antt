@@ -10,8 +10,8 @@ use Rattle.paper.specs.declared.answers.Next.{Next}
 use Rattle.paper.specs.Handed.{listOf}
 use Rattle.paper.specs.Answers.{saidNext}
 use Rattle.paper.specs.Places.{hasNext}
-use Rattle.bench.proofs.splits.next_fold_set.Statement.{statement}
-use Rattle.bench.proofs.splits.next_fold_set.Tie as tie
+use Rattle.split_calls.proofs.splits.next_fold_set.Statement.{statement}
+use Rattle.split_calls.proofs.splits.next_fold_set.Tie as tie
 
 next-set-requires : tie.Need-next-set-requires
 next-set-requires c κs =

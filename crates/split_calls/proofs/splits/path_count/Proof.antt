@@ -7,8 +7,8 @@ use Rattle.checks.proofs.ChainLaws.{then-fine, fine-gives, bad-gives}
 use Rattle.checks.proofs.ReadyLaws.{Ready, numbers-ready}
 use native.Mathlib.Omega.{arith}
 use Rattle.paper.specs.Paths.{paths}
-use Rattle.bench.proofs.splits.path_count.Statement.{statement}
-use Rattle.bench.proofs.splits.path_count.Tie as tie
+use Rattle.split_calls.proofs.splits.path_count.Statement.{statement}
+use Rattle.split_calls.proofs.splits.path_count.Tie as tie
 
 ready : (c : tie.After-enum-told) → let a = c .before .before .before .args in Ready (a .folds) (a .k)
 ready c =

@@ -7,8 +7,8 @@ use Rattle.checks.proofs.ChainLaws.{then-fine, fine-gives, bad-gives, lent-fine
 use Rattle.checks.proofs.ReadyLaws.{whole-ready}
 use Prim.{tt}
 use lib.ListN.{length}
-use Rattle.bench.proofs.splits.whole_path.Statement.{statement}
-use Rattle.bench.proofs.splits.whole_path.Tie as tie
+use Rattle.split_calls.proofs.splits.whole_path.Statement.{statement}
+use Rattle.split_calls.proofs.splits.whole_path.Tie as tie
 
 write-path-requires : tie.Need-write-path-requires
 write-path-requires c κs =

@@ -6,8 +6,8 @@ use Rattle.checks.proofs.ChainLaws.{then-fine, fine-gives, bad-gives}
 use Rattle.checks.proofs.ReadyLaws.{split-ready}
 use Prim.{tt}
 use native.Mathlib.Omega.{arith}
-use Rattle.bench.proofs.splits.folds_of_split.Statement.{statement}
-use Rattle.bench.proofs.splits.folds_of_split.Tie as tie
+use Rattle.split_calls.proofs.splits.folds_of_split.Statement.{statement}
+use Rattle.split_calls.proofs.splits.folds_of_split.Tie as tie
 
 set-at-requires : tie.Need-set-at-requires
 set-at-requires c κs =

@@ -7,8 +7,8 @@ use Rattle.checks.proofs.ChainLaws.{then-fine, fine-gives, bad-gives}
 use Rattle.checks.proofs.ReadyLaws.{path-ready}
 use native.Mathlib.Omega.{arith}
 use Rattle.paper.specs.Paths.{splitOnPath}
-use Rattle.bench.proofs.splits.split_on_path.Statement.{statement}
-use Rattle.bench.proofs.splits.split_on_path.Tie as tie
+use Rattle.split_calls.proofs.splits.split_on_path.Statement.{statement}
+use Rattle.split_calls.proofs.splits.split_on_path.Tie as tie
 
 split-on-path-requires : tie.Need-split-on-path-requires
 split-on-path-requires c κs =
