@@ -9,6 +9,7 @@ pub mod Ranges
 pub mod RowLists
 pub mod SpanLaws
 pub mod Unique
+pub mod UniqueCalls
 pub mod Unordered
 pub mod Windows
 pub mod Worker
