@@ -1,2 +1,3 @@
--- What the functions' proofs cite.
+-- What the functions' proofs cite, and what callers by split number do.
 mod LayoutLaws
+pub mod Numbered
