@@ -56,16 +56,6 @@ append-refused {A} {B} (c ∷ xs) ys a b {n} {q} h = go (c .due) h (append-refus
     go true h more = cc
     go false h more = more h
 
-pub clear-append : (xs ys : List Check) → clear (xs ++ ys) ≡ true → (clear xs ≡ true) × (clear ys ≡ true)
-clear-append [] ys h = (refl, h)
-clear-append (c ∷ xs) ys h =
-    let b = both {a = not (c .due)} h in
-    let more = clear-append xs ys (b .1) in
-    (rw (b .0) (more .0), more .1)
-
-pub clear-cons : (c : Check) (cs : List Check) → clear (c ∷ cs) ≡ true → (c .due ≡ false) × (clear cs ≡ true)
-clear-cons c cs h = let b = both {a = not (c .due)} h in (not-true (c .due) (b .0), b .1)
-
 -- ---- what was found
 
 -- The groups of a call, one after another, are its chain.
