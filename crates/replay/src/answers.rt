@@ -17,6 +17,18 @@ pub fn plain(same: bool) -> Verdict {
     }
 }
 
+pub fn run(same: bool) -> Verdict {
+    Verdict {
+        run: true,
+        same: same,
+    }
+}
+
+// A verdict on a refused run, with whether some split of the run has no row to train on.
+pub fn run_of(v: Verdict, empty: bool) -> Verdict {
+    if empty { v } else { run(false) }
+}
+
 // The answer `X`: the number, and what it carries.
 pub fn refused(line: &[u8], at: usize, r: Refusal) -> bool {
     let x = reads::expect_letter(line, at, b'X');
@@ -134,29 +146,27 @@ fn pair_counts(line: &[u8], at: usize, c: Counts, marks: &[u8]) -> bool {
     reads::ended(line, last)
 }
 
-// The whole run was refused, since some split of it has no row to train on, before the engine came to the split asked for.
-// That one may have an answer, no row to train on, or a number past the end.
-fn of_run(m: Marked) -> bool {
+// The number of a refusal, and 0 for a result.
+pub fn refusal(m: Marked) -> u64 {
     match m {
-        Marked::Done(_) => true,
-        Marked::Refused(r) => after_checks(r.number()),
+        Marked::Done(_) => 0,
+        Marked::Refused(r) => r.number(),
     }
 }
 
-fn after_checks(number: u64) -> bool {
-    if number == 13 {
-        return true;
+// The engine refused the whole run before it came to the split asked for, which may have a result, no row to train on, or a
+// number past the end.
+fn of_run(m: Marked) -> bool {
+    match refusal(m) {
+        0 | 13 | 17 => true,
+        _ => false,
     }
-    number == 17
 }
 
 pub fn pair(line: &[u8], at: usize, m: Marked, marks: &[u8]) -> Verdict {
     let e = reads::expect_letter(line, at, b'E');
-    if e != reads::NOWHERE {
-        return Verdict {
-            run: true,
-            same: of_run(m),
-        };
+    if reads::ended(line, e) {
+        return run(of_run(m));
     }
     match m {
         Marked::Done(c) => plain(pair_counts(line, at, c, marks)),
