@@ -3,7 +3,7 @@
 
 usage: oracle/reading.py [--list] [FILE ..]
 
-Without files it reads data/oracle.txt and data/differences.txt. It says how many cases agree and
+Without files it reads crates/replay/stdin and data/differences.txt. It says how many cases agree and
 how many differ in each of the known ways; anything else is printed in full and the exit status
 is 1. With --list every known difference is printed too: file, line, question, the Rust's answer,
 01's answer. Nothing here was taken from the Rust.
@@ -18,7 +18,7 @@ from functools import lru_cache
 from pathlib import Path
 
 TOP = Path(__file__).resolve().parent.parent
-FILES = [TOP / "data" / "oracle.txt", TOP / "data" / "differences.txt"]
+FILES = [TOP / "crates" / "replay" / "stdin", TOP / "data" / "differences.txt"]
 MAX_FOLDS = 64
 MAX_ROWS = 1_048_576
 
