@@ -5,6 +5,7 @@
 // - an embargo is kept as the row where it begins: its width is the same for all blocks, and no sum is made;
 // - embargoes are found from the blocks, where the Rust finds the blocks again in a list of flags;
 // - the hull is new: it settles most rows of the pair rule without a look at each test row.
+#![tactic(auto)]
 ghost use Rattle.std.specs.Prelude.{◌≡◌, cond, ◌≤◌, ◌<◌, length};
 ghost use Rattle.lists.specs.Base.{over};
 ghost use Rattle.paper.specs.Spans.{later, table};
@@ -13,7 +14,7 @@ ghost use Rattle.blocks.specs.Held.{nth, time, steps_to, lowest, Blocks, Bounds}
 ghost use Rattle.blocks.specs.Joined.{Joins, place_of};
 
 // By which rule rows are purged.
-#[derive(Drop)]
+#[derive(Clone, Copy)]
 pub enum Rule {
     Window,
     Pair,

@@ -5,7 +5,7 @@ ghost use Rattle.checks.specs.Said.{said_checked, ◌then◌, due_as};
 
 use paper::Refusal;
 
-#[derive(Drop)]
+#[derive(Clone, Copy)]
 pub enum Checked {
     // No refusal is due.
     Fine,

@@ -1,6 +1,7 @@
 // The next byte of a kind, and one field of a line, from a place on (01, "Report program"). The Rust has nothing like it.
 // Every function answers on any bytes and any place. A line of known fields is read by one call a field, each from the
 // place that the one before handed on; the place past the end says that the last field has been read.
+#![tactic(auto)]
 ghost use Rattle.std.specs.Prelude.{◌≡◌, ◌≤◌, length};
 ghost use Rattle.fields.specs.Answers.{said_decimal_field, said_signed_field, said_double_field, said_letter_field};
 ghost use Rattle.text.specs.Numbers.{decimal_of, signed_of, double_of, letter_of};
@@ -9,25 +10,25 @@ ghost use Rattle.fields.specs.Parts.{find_from, Ends, field_as};
 use text::{Decimal, Double, Letter, Signed};
 
 // What a field holds, and the place where the next begins; past the end of the line, if it was the last.
-#[derive(Drop)]
+#[derive(Clone, Copy)]
 pub enum DecimalField {
     Is(u64, usize),
     Bad,
 }
 
-#[derive(Drop)]
+#[derive(Clone, Copy)]
 pub enum SignedField {
     Is(i64, usize),
     Bad,
 }
 
-#[derive(Drop)]
+#[derive(Clone, Copy)]
 pub enum DoubleField {
     Is(f64, usize),
     Bad,
 }
 
-#[derive(Drop)]
+#[derive(Clone, Copy)]
 pub enum LetterField {
     Is(u8, usize),
     Bad,

@@ -1,5 +1,6 @@
 // A first program against the bench: six labelled stretches in three folds, fold 0 tested, one row in ten embargoed.
 // It prints how many rows train, or the number of the refusal.
+#![tactic(auto)]
 use bench::{Marked, Settings, SplitNumber};
 
 fn main() {

@@ -4,6 +4,7 @@
 // - one fold a call, by a product and a remainder, where the Rust makes the list of all;
 // - a fold or row that there is none of gets an answer of its own, where the Rust's callers check first;
 // - `fold_of_row` is new: the Rust looks a row up in the lists of indices.
+#![tactic(auto)]
 ghost use Rattle.std.specs.Prelude.{◌≡◌, ◌≤◌, ◌<◌, min};
 ghost use Rattle.paper.specs.Folds.{even_border, even_borders, fold_of};
 ghost use Rattle.folds.specs.Found.{bounds_of, fold_found};
@@ -11,14 +12,14 @@ ghost use Rattle.folds.specs.Found.{bounds_of, fold_found};
 use paper::FoldNumber;
 
 // The first row of a fold and the row past it.
-#[derive(Drop)]
+#[derive(Clone, Copy)]
 pub enum FoldBounds {
     Rows(usize, usize),
     NoSuchFold,
 }
 
 // The fold that a row is in.
-#[derive(Drop)]
+#[derive(Clone, Copy)]
 pub enum RowFold {
     Fold(FoldNumber),
     NoSuchRow,

@@ -1,1 +1,2 @@
 // No code: the theorems over the definitions of `paper` stand in specs/.
+#![tactic(auto)]

@@ -1,4 +1,5 @@
 // The public calls on lists that mark no purged split: plain folds and train times.
+#![tactic(auto)]
 pub mod naive_folds;
 pub mod train_spans;
 

@@ -1,1 +1,2 @@
 // No code: the definitions and laws of this crate stand in specs/.
+#![tactic(auto)]

@@ -2,6 +2,7 @@
 // Source: `naive_kfold_splits` of cross_validation.rs (01, "Refusal numbers": the naive splitter). Changed against it:
 // - one split a call, as marks in a lent list: 1 for the rows of the fold, 0 for all others;
 // - the counts are given beside them.
+#![tactic(auto)]
 ghost use Rattle.std.specs.Prelude.{◌≡◌, ◌≤◌, length};
 ghost use Rattle.lists.specs.Base.{tab, bit};
 ghost use Rattle.paper.specs.Folds.{within};

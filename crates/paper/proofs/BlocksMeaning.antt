@@ -61,6 +61,7 @@ module _ (n : ℕ) (t : Rows) where
 
   -- Blocks ascend, are disjoint, and are not adjacent: the row past the earlier one lies before the later one begins.
   pub block_apart : (b c : ℕ) → b < c → c < n → begins t c ≡ true → past n t b < c
+  block_apart b zero h k e = elim h [ ]
   block_apart b (suc c) h k e = go (dec_lt c (past n t b))
     where
       go : Dec (c < past n t b) → past n t b < suc c

@@ -4,7 +4,7 @@ use crate::numbers::{FoldSet, SplitNumber};
 use crate::refusal::Refusal;
 
 // How many rows of a split train, are tested, are purged (marks 2 and 4) and are embargoed (marks 3 and 4).
-#[derive(Drop)]
+#[derive(Clone, Copy)]
 pub struct Counts {
     pub train: usize,
     pub test: usize,
@@ -13,7 +13,7 @@ pub struct Counts {
 }
 
 // Marks were written into the lent list.
-#[derive(Drop)]
+#[derive(Clone, Copy)]
 pub enum Marked {
     Done(Counts),
     Refused(Refusal),
@@ -21,35 +21,35 @@ pub enum Marked {
 
 // Done, with nothing more to say: what was asked for stands in a lent list (train times, joining, a whole path) or beside the
 // answer (the folds of a split).
-#[derive(Drop)]
+#[derive(Clone, Copy)]
 pub enum Written {
     Done,
     Refused(Refusal),
 }
 
 // A number of splits or of paths.
-#[derive(Drop)]
+#[derive(Clone, Copy)]
 pub enum Counted {
     Done(u64),
     Refused(Refusal),
 }
 
 // The number of a split.
-#[derive(Drop)]
+#[derive(Clone, Copy)]
 pub enum Placed {
     Done(SplitNumber),
     Refused(Refusal),
 }
 
 // The folds of a split; no folds beside a refusal.
-#[derive(Drop)]
+#[derive(Clone, Copy)]
 pub struct SplitFolds {
     pub outcome: Written,
     pub folds: FoldSet,
 }
 
 // Whether a fold set has one after it.
-#[derive(Drop)]
+#[derive(Clone, Copy)]
 pub enum Next {
     After,
     Last,
@@ -57,19 +57,19 @@ pub enum Next {
 }
 
 // The fold set after a given one; no folds beside `Last` and beside a refusal.
-#[derive(Drop)]
+#[derive(Clone, Copy)]
 pub struct NextSet {
     pub outcome: Next,
     pub folds: FoldSet,
 }
 
 // The training entries that overlap some test entry.
-#[derive(Drop)]
+#[derive(Clone, Copy)]
 pub struct OverlapCount {
     pub count: usize,
 }
 
-#[derive(Drop)]
+#[derive(Clone, Copy)]
 pub enum Overlaps {
     Done(OverlapCount),
     Refused(Refusal),

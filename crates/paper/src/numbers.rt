@@ -4,19 +4,19 @@ ghost use Rattle.std.specs.Prelude.{◌≡◌};
 ghost use Rattle.paper.specs.Handed.{no_folds};
 
 // A split, counted from 0 in the order of the listing.
-#[derive(Drop)]
+#[derive(Clone, Copy)]
 pub struct SplitNumber(pub u64);
 
 // A path, counted from 0.
-#[derive(Drop)]
+#[derive(Clone, Copy)]
 pub struct PathNumber(pub u64);
 
 // A fold, counted from 0.
-#[derive(Drop)]
+#[derive(Clone, Copy)]
 pub struct FoldNumber(pub usize);
 
 // The ascending fold list of a split, with its length. Unused places hold 0.
-#[derive(Drop)]
+#[derive(Clone, Copy)]
 pub struct FoldSet {
     pub folds: [FoldNumber; 64],
     pub count: usize,

@@ -3,7 +3,7 @@
 // - making settings checks nothing: each call checks the settings it gets, in 01's order.
 ghost use Rattle.std.specs.Prelude.{◌≡◌};
 
-#[derive(Drop)]
+#[derive(Clone, Copy)]
 pub struct Settings {
     // N, the number of folds (`n_splits`).
     pub folds: usize,

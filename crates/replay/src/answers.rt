@@ -3,7 +3,7 @@ use crate::reads;
 use paper::{Counts, Marked, Refusal};
 
 // Whether a line agrees. An answer `E` is that of the engine's whole run and is counted apart.
-#[derive(Drop)]
+#[derive(Clone, Copy)]
 pub struct Verdict {
     pub run: bool,
     pub same: bool,

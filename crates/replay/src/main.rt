@@ -1,5 +1,6 @@
 // Asks the public calls every question of the recorded list and compares. For each kind of line: how many agree, how many
 // differ, and the number of the first line that differs, or 0. A line that is not of the form differs.
+#![tactic(auto)]
 ghost use Rattle.std.specs.Prelude.{◌≤◌};
 
 mod answers;

@@ -50,7 +50,7 @@ fn some_kfold(starts: &[i64], ends: &[i64], settings: Settings, marks: &mut [u8]
 }
 
 // N, k or m, the fraction and the split of the lines that have all four.
-#[derive(Drop)]
+#[derive(Clone, Copy)]
 struct Asked {
     folds: usize,
     k: usize,
@@ -118,7 +118,7 @@ pub fn walk_forward(line: &[u8], starts: &[i64], ends: &[i64], marks: &mut [u8])
 }
 
 // What a rolling run is asked with.
-#[derive(Drop)]
+#[derive(Clone, Copy)]
 struct Rolled {
     a: usize,
     size: usize,

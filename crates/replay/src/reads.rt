@@ -5,13 +5,13 @@ use fields::{DecimalField, DoubleField, LetterField};
 
 pub const NOWHERE: usize = 0xffff_ffff_ffff_ffff;
 
-#[derive(Drop)]
+#[derive(Clone, Copy)]
 pub struct Read {
     pub value: u64,
     pub at: usize,
 }
 
-#[derive(Drop)]
+#[derive(Clone, Copy)]
 pub struct ReadFraction {
     pub value: f64,
     pub at: usize,

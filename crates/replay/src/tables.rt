@@ -2,7 +2,7 @@
 use crate::reads;
 use fields::SignedField;
 
-#[derive(Drop)]
+#[derive(Clone, Copy)]
 pub struct Table {
     pub rows: usize,
     pub at: usize,

@@ -1,4 +1,5 @@
 // The public calls on split and path numbers.
+#![tactic(auto)]
 pub mod splits;
 
 pub use splits::{

@@ -1,30 +1,31 @@
 // A slice of bytes as one number (01, "Report program"). The Rust has nothing like it.
 // Every function answers on any bytes; what it answers is what they spell, and `Bad` says that they spell nothing.
+#![tactic(auto)]
 ghost use Rattle.std.specs.Prelude.{◌≡◌, ◌<◌, ◌≤◌, ◌^◌, negsuc};
 ghost use Rattle.std.specs.Float.{binary64};
 ghost use Rattle.std.specs.Float.Ieee.{of_bits};
 ghost use Rattle.text.specs.Answers.{said_decimal, said_signed, said_double, said_letter};
 ghost use Rattle.text.specs.Numbers.{digit_of, below, word_of, canonical, decimal_of, upward, downward, signed_of, double_of, letter_of};
 
-#[derive(Drop)]
+#[derive(Clone, Copy)]
 pub enum Decimal {
     Is(u64),
     Bad,
 }
 
-#[derive(Drop)]
+#[derive(Clone, Copy)]
 pub enum Signed {
     Is(i64),
     Bad,
 }
 
-#[derive(Drop)]
+#[derive(Clone, Copy)]
 pub enum Double {
     Is(f64),
     Bad,
 }
 
-#[derive(Drop)]
+#[derive(Clone, Copy)]
 pub enum Letter {
     Is(u8),
     Bad,

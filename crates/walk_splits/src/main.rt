@@ -2,6 +2,7 @@
 // accepted at their first, a middle and their last number. Every line goes by the public calls. What the lines must say
 // stands in `stdout` and was worked out another way: the p-th split that holds g is g put into the p-th set of k - 1 of
 // the other folds.
+#![tactic(auto)]
 mod lines;
 mod walk;
 

@@ -3,6 +3,7 @@
 // - the ceiling is worked out: the product without its fraction, and one more where that is less;
 // - a number that is no fraction and a table too long are refused here, where the Rust's callers check first;
 // - the test is a function of its own, and leaves out `is_finite`, which [0,1) implies.
+#![tactic(auto)]
 ghost use Rattle.std.specs.Prelude.{◌≡◌, ◌≤◌, true};
 ghost use Rattle.paper.specs.Checks.{checked};
 ghost use Rattle.paper.specs.Width.{is_fraction, width_of};
@@ -10,7 +11,7 @@ ghost use Rattle.width.specs.Answer.{said_width, width_checks};
 
 use paper::{Refusal, Settings};
 
-#[derive(Drop)]
+#[derive(Clone, Copy)]
 pub enum Width {
     Rows(usize),
     Refused(Refusal),
