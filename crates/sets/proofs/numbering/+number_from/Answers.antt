@@ -1,0 +1,87 @@
+use borrow.Author.Rules.{rules}
+use native.Mathlib.Omega.{arith}
+use Rattle.sets.proofs.NumberingLaws.{tail_end, place_fits, tail_some, tail_first, tail_firsts, tail_second, tail_seconds}
+use Prim.Native.Nat.{ℕ, ◌-◌, ◌<◌}
+use Rattle.sets.proofs.numbering.+number_from.Goals as goal
+
+pub returns-then-at-k : goal.returns-then-at-k
+returns-then-at-k t c = tail_end c.requires c.if-at-k.true
+
+pub offset_bounds-set-at : goal.offset_bounds-set-at
+offset_bounds-set-at t c =
+    let ne = c.if-at-k.false in
+    let some = tail_some c.requires ne in
+    omega arith
+
+pub bounds-set-at : goal.bounds-set-at
+bounds-set-at t c =
+    let ne = c.if-at-k.false in
+    let some = tail_some c.requires ne in
+    omega arith
+
+pub overflow_sub-n : goal.overflow_sub-n
+overflow_sub-n t c =
+    let ne = c.if-at-k.false in
+    let some = tail_some c.requires ne in
+    omega arith
+
+pub number_from-requires : goal.number_from-requires
+number_from-requires t c =
+    let ne = c.if-at-k.false in
+    let some = tail_some c.requires ne in
+    (omega arith, tail_first c.requires ne (c.args.n - 1) (omega arith) c.if-set-at.true)
+
+pub overflow_sub-n-else-set-at : goal.overflow_sub-n-else-set-at
+overflow_sub-n-else-set-at t c =
+    let ne = c.if-at-k.false in
+    let some = tail_some c.requires ne in
+    omega arith
+
+pub overflow_sub-k : goal.overflow_sub-k
+overflow_sub-k t c =
+    let ne = c.if-at-k.false in
+    let some = tail_some c.requires ne in
+    omega arith
+
+pub overflow_sub-k-else-set-at : goal.overflow_sub-k-else-set-at
+overflow_sub-k-else-set-at t c =
+    let ne = c.if-at-k.false in
+    let some = tail_some c.requires ne in
+    omega arith
+
+pub n_choose_k-requires : goal.n_choose_k-requires
+n_choose_k-requires t c =
+    let ne = c.if-at-k.false in
+    let some = tail_some c.requires ne in
+    omega arith
+
+pub overflow_sub-n-else-set-at-2 : goal.overflow_sub-n-else-set-at-2
+overflow_sub-n-else-set-at-2 t c =
+    let ne = c.if-at-k.false in
+    let some = tail_some c.requires ne in
+    omega arith
+
+pub number_from-requires-else-set-at : goal.number_from-requires-else-set-at
+number_from-requires-else-set-at t c =
+    let ne = c.if-at-k.false in
+    let some = tail_some c.requires ne in
+    (omega arith, tail_second c.requires ne (c.args.n - 1) (omega arith) c.if-set-at.false)
+
+pub overflow_add-result : goal.overflow_add-result
+overflow_add-result t c =
+    let ne = c.if-at-k.false in
+    let some = tail_some c.requires ne in
+    let fits = place_fits _ (tail_seconds c.requires ne (c.args.n - 1) (omega arith) c.n_choose_k.result c.number_from-else-set-at.result c.n_choose_k.ensures c.number_from-else-set-at.ensures) (omega arith) in
+    omega arith
+
+pub returns-then-set-at : goal.returns-then-set-at
+returns-then-set-at t c =
+    let ne = c.if-at-k.false in
+    let some = tail_some c.requires ne in
+    tail_firsts c.requires ne (c.args.n - 1) (omega arith) c.if-set-at.true c.number_from.result c.number_from.ensures
+
+pub returns-else-set-at : goal.returns-else-set-at
+returns-else-set-at t c =
+    let ne = c.if-at-k.false in
+    let some = tail_some c.requires ne in
+    tail_seconds c.requires ne (c.args.n - 1) (omega arith) c.n_choose_k.result c.number_from-else-set-at.result c.n_choose_k.ensures c.number_from-else-set-at.ensures

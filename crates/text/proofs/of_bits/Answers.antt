@@ -1,0 +1,13 @@
+-- The two sides of the test: bits of a NaN, for which 0.0 / 0.0 stands, and others.
+use lib.Ieee.{div, of_bits}
+use Rattle.text.proofs.NanLaws.{nan_above, nan_not}
+use native.Mathlib.Omega.{arith}
+use borrow.Author.Rules.{rules}
+use Rattle.text.proofs.of_bits.Goals as goal
+
+pub returns-then-bits-gt9218868437227405312 : goal.returns-then-bits-gt9218868437227405312
+unfolding div of_bits
+returns-then-bits-gt9218868437227405312 c = nan_above c.args.bits (omega arith)
+
+pub float_from_bits-result : goal.float_from_bits-result
+float_from_bits-result c = nan_not c.args.bits (omega arith)
