@@ -1,4 +1,4 @@
--- A running latest or earliest time, kept as bits: its start, and one time more.
+-- A running latest or earliest time, which code keeps as bits: its start, and one time more.
 use mathlib.Core.Path.{◌≡◌, sym, ap₂, ◌∙◌}
 use Prim.Native.Nat.{ℕ, ◌+◌, ◌<◌, ◌^◌}
 use lib.IntN.{ℤ}
@@ -15,7 +15,7 @@ module _ (op : ℤ → ℤ → ℤ) (f : ℕ → ℤ) (b : ℕ) where
 
   -- r is what the code joins of the time so far, m, and of f i.
   pub run_more :
-      (i m : ℕ) (r : ℤ) → b < i → mag (f i) < 2 ^ 63 → mag r < 2 ^ 63 → to_z w64 m ≡ over op f b i →
-      r ≡ op (to_z w64 m) (to_z w64 (of_z w64 (f i))) → to_z w64 (of_z w64 r) ≡ over op f b (i + 1)
+      (i : ℕ) (m r : ℤ) → b < i → mag (f i) < 2 ^ 63 → mag r < 2 ^ 63 → m ≡ over op f b i →
+      r ≡ op m (to_z w64 (of_z w64 (f i))) → to_z w64 (of_z w64 r) ≡ over op f b (i + 1)
   run_more i m r l h k e j =
       read r k ∙ j ∙ ap₂ op e (read (f i) h) ∙ sym (over_more op f b i l)
