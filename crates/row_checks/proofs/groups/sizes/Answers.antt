@@ -1,0 +1,6 @@
+use mathlib.Core.Path.{◌∙◌}
+use borrow.Author.Rules.{rules}
+use Rattle.row_checks.proofs.groups.sizes.Goals as goal
+
+pub returns : goal.returns
+returns c = c.refuse_if.ensures ∙ rw c.zero_size.ensures
