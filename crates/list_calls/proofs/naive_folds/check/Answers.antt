@@ -4,18 +4,14 @@ use borrow.Author.Rules.{rules}
 use Rattle.paper.specs.Checks.{bad_folds, wrong_length, no_such}
 use Rattle.checks.specs.declared.checked.Checked.{Checked}
 use Rattle.checks.proofs.ChainLaws.{then_append}
-use Rattle.list_calls.proofs.naive_folds.check.Statement.{statement}
-use Rattle.list_calls.proofs.naive_folds.check.Tie as tie
+use Rattle.list_calls.proofs.naive_folds.check.Goals as goal
 
-returns : tie.Need-returns
+pub returns : goal.returns
 returns c =
-    let a = c.before.before.before.args in
-    let f = c.before.before.folds in
-    let l = c.before.list_length in
+    let a = c.args in
+    let f = c.folds-found in
+    let l = c.list_length in
     let last = no_such a.folds a.s ∷ [] in
     c.below.ensures
     ∙ then_append f.result l.result (wrong_length a.room a.n ∷ []) last l.ensures
     ∙ then_append Checked.Fine f.result (bad_folds a.folds a.n ∷ []) (wrong_length a.room a.n ∷ last) f.ensures
-
-pub check_spec : {M : Type 1} → statement M
-check_spec = tie.close (tie.spec (λ c κs. search rules) (λ c κs. search rules) (λ c κs. search rules) returns)

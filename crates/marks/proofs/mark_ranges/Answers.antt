@@ -1,0 +1,16 @@
+-- The ranges are joined, the rule to work by is chosen, and neither changes the marks.
+use native.Mathlib.Omega.{arith}
+use borrow.Author.Rules.{rules}
+use Rattle.marks.proofs.WayLaws.{blocks_written}
+use Rattle.marks.proofs.mark_ranges.Goals as goal
+
+pub mark_blocks-requires : goal.mark_blocks-requires
+mark_blocks-requires c =
+    let p = c.requires in
+    let j = c.merge_adjacent-blocks.ensures in
+    record { accepted = p.table; blocks_bound = (omega (arith, p.few, j.few), (j.joined _ p.ranges).blocks) }
+
+pub returns : goal.returns
+returns c =
+    blocks_written c.args.starts.now c.args.ends.now c.requires.table.good
+    (c.merge_adjacent-blocks.ensures.joined _ c.requires.ranges) c.args.rule _ _ _ _ _ c.way-by.ensures c.mark_blocks.ensures

@@ -1,0 +1,54 @@
+use mathlib.Core.Path.{◌≡◌, sym, ◌∙◌}
+use mathlib.Core.List.{List}
+use Prim.Native.Nat.{ℕ, ◌-◌, ◌≤◌, ◌<◌}
+use native.Mathlib.Omega.{arith}
+use lib.IntN.{ℤ}
+use lib.ListN.{length, take, length-set}
+use borrow.Author.Rules.{rules}
+use Rattle.lists.specs.Base.{tab}
+use Rattle.lists.specs.TabLaws.{tab_none, tab_more, tab_all}
+use Rattle.paper.specs.declared.answers.Counts.{Counts}
+use Rattle.paper.specs.Spans.{table}
+use Rattle.paper.specs.Marks.{mark_of, counts_of}
+use Rattle.laws.specs.MarkCounts.{AtMost, counts_of_zero, counts_of_more, counts_of-le}
+use Rattle.blocks.specs.declared.Rule.{Rule}
+use Rattle.blocks.specs.Held.{rule_of, array_split}
+use Rattle.marks.proofs.mark_rows.Invariants.{Marked, due}
+use Rattle.marks.proofs.mark_rows.Goals as goal
+
+pub loop-i-init : goal.loop-i-init
+loop-i-init c =
+    record {
+      within = omega arith;
+      long = search rules;
+      done = tab_none _ c.args.marks.now;
+      counted = c.no_counts-counts.ensures ∙ sym (counts_of_zero _);
+    }
+
+pub row_mark-m-requires : goal.row_mark-m-requires
+row_mark-m-requires c = record { held = c.requires.held; i_in_bounds = omega arith }
+
+few : (c : Counts) (i n : ℕ) → i ≤ n → AtMost c i → AtMost c n
+few c i n h a = record { train = omega arith; test = omega arith; purged = omega arith; embargoed = omega arith }
+
+pub one_more-counts-requires : goal.one_more-counts-requires
+one_more-counts-requires c =
+    let l = c.loop-i in
+    few l.counts l.i 1048576 (omega arith) (rw l.invariant.counted (counts_of-le _ l.i))
+
+pub loop-i-preserved : goal.loop-i-preserved
+loop-i-preserved c =
+    let l = c.loop-i in
+    let here : l.i < length l.marks = omega arith in
+    record {
+      within = search rules;
+      long = simp length-set l.invariant.long;
+      done = tab_more _ l.marks l.i _ here l.invariant.done c.row_mark-m.ensures;
+      counted = c.one_more-counts.ensures ∙ rw (l.invariant.counted, c.row_mark-m.ensures) (sym (counts_of_more _ l.i));
+    }
+
+pub returns : goal.returns
+returns c =
+    let l = c.loop-i in
+    let z : l.i ≡ length c.args.starts.now = omega arith in
+    record { marked = tab_all _ l.marks l.i _ l.invariant.done (omega arith) z; counted = rw z at l.invariant.counted }
