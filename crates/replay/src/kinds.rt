@@ -1,5 +1,6 @@
 // The kinds of lines by number, in the order in which they are reported. 0 is a line of no kind.
-use libc::STDOUT_FILENO;
+use std::io;
+use std::io::Write;
 
 // A kind of one letter has a tab for its second.
 fn name_byte(i: usize) -> u8 {
@@ -36,13 +37,14 @@ pub fn of_line(line: &[u8]) -> usize {
     }
 }
 
-pub fn show_name(kind: usize) {
+pub fn show_name(rt: &impl Print, kind: usize) -> io::Result<()> {
     if kind < 16 {
         let name = [name_byte(2 * kind), name_byte(2 * kind + 1)];
+        let mut out = io::writer(rt);
         if name[1] == b'\t' {
-            io::write_all(STDOUT_FILENO, &name[0..1]);
-        } else {
-            io::write_all(STDOUT_FILENO, &name);
+            return out.write_all(&name[0..1]);
         }
+        return out.write_all(&name);
     }
+    Ok(())
 }

@@ -1,7 +1,8 @@
 // Asks the public calls every question of the recorded list and compares. For each kind of line: how many agree, how many
 // differ, and the number of the first line that differs, or 0. A line that is not of the form differs.
 #![tactic(auto)]
-ghost use Rattle.std.specs.Prelude.{◌≤◌};
+
+ghost use Rattle.std.specs.Prelude.{◌≤◌, IfOk, length};
 
 mod answers;
 mod kinds;
@@ -12,6 +13,8 @@ mod tables;
 mod tally;
 
 use answers::Verdict;
+use std::io;
+use std::io::Read;
 
 fn about_table(
     kind: usize,
@@ -137,13 +140,29 @@ fn room() -> [u8; 1048576] {
     [0u8; 1048576]
 }
 
-fn main() {
+// Reads until the buffer is full or the input ends, and answers how many bytes it put at the start.
+fn read_full(rt: &impl Input, buf: &mut [u8]) -> io::Result<usize>
+    ensures { IfOk result (λ n. n ≤ length buf.new) }
+{
+    let mut reader = rt.reader();
+    let mut done = 0;
+    while done < buf.len() {
+        let n = reader.read(&mut buf[done..])?;
+        if n == 0 {
+            break;
+        }
+        done += n;
+    }
+    Ok(done)
+}
+
+fn main(rt: HostRuntime) -> io::Result<()> {
     let mut starts = [0i64; 256];
     let mut ends = [0i64; 256];
     let mut tally = [0u64; 64];
     let mut buf = room();
-    let n = io::read_full(0, &mut buf);
+    let n = read_full(&rt, &mut buf)?;
     replay(&buf[..n], &mut starts, &mut ends, &mut tally);
-    tally::show(&tally);
-    tally::show_skipped(&tally);
+    tally::show(&rt, &tally)?;
+    tally::show_skipped(&rt, &tally)
 }

@@ -1,8 +1,8 @@
 // From the first split to the last, each from the one before it.
 use crate::lines;
-use libc::STDOUT_FILENO;
 use paper::{Counted, FoldSet, Next, Placed, SplitNumber};
 use split_calls::splits;
+use std::io;
 
 // The same folds in all 64 places, and as many.
 fn same(a: FoldSet, b: FoldSet) -> bool {
@@ -60,18 +60,18 @@ fn walked(n: usize, k: usize, many: u64) -> u64 {
     0
 }
 
-pub fn show_walk(n: usize, k: usize) {
+pub fn show_walk(rt: &impl Print, n: usize, k: usize) -> io::Result<()> {
     match splits::split_count(n, k) {
         Counted::Done(many) => {
-            io::write_all(STDOUT_FILENO, b"walked");
-            lines::number(n as u64);
-            lines::number(k as u64);
-            io::write_all(STDOUT_FILENO, b":");
-            lines::number(walked(n, k, many));
-            io::write_all(STDOUT_FILENO, b" of");
-            lines::number(many);
-            lines::end();
+            print!(rt; "walked")?;
+            lines::number(rt, n as u64)?;
+            lines::number(rt, k as u64)?;
+            print!(rt; ":")?;
+            lines::number(rt, walked(n, k, many))?;
+            print!(rt; " of")?;
+            lines::number(rt, many)?;
+            lines::end(rt)
         }
-        Counted::Refused(_) => lines::end(),
+        Counted::Refused(_) => lines::end(rt),
     }
 }
