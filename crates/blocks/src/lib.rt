@@ -6,6 +6,7 @@
 // - embargoes are found from the blocks, where the Rust finds the blocks again in a list of flags;
 // - the hull is new: it settles most rows of the pair rule without a look at each test row.
 #![tactic(auto)]
+
 ghost use Rattle.std.specs.Prelude.{◌≡◌, cond, ◌≤◌, ◌<◌, length};
 ghost use Rattle.lists.specs.Base.{over};
 ghost use Rattle.paper.specs.Spans.{later, table};

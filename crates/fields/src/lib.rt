@@ -2,6 +2,7 @@
 // Every function answers on any bytes and any place. A line of known fields is read by one call a field, each from the
 // place that the one before handed on; the place past the end says that the last field has been read.
 #![tactic(auto)]
+
 ghost use Rattle.std.specs.Prelude.{◌≡◌, ◌≤◌, length};
 ghost use Rattle.fields.specs.Answers.{said_decimal_field, said_signed_field, said_double_field, said_letter_field};
 ghost use Rattle.text.specs.Numbers.{decimal_of, signed_of, double_of, letter_of};

@@ -1,10 +1,9 @@
 -- What the bounds of a fold are, for callers who know that there is such a fold.
 use mathlib.Core.Path.{◌≡◌, sym, ◌∙◌}
-use mathlib.Core.Bool.{cond}
-use Prim.Native.Nat.{ℕ, ◌+◌, ◌≤◌, ◌<◌, min, ◌*◌, ◌/◌, ◌%◌}
+use Prim.Native.Nat.{ℕ, ◌+◌, ◌≤◌, ◌<◌}
 use native.Mathlib.Omega.{arith}
 use borrow.Author.Tests.{lt-ltb}
-use Rattle.paper.specs.Folds.{even_border, even_size}
+use Rattle.paper.specs.Folds.{even_border}
 use Rattle.paper.proofs.FoldsMeaning.{even_border_closed, even_border-le, even_border_size}
 use Rattle.folds.specs.declared.FoldBounds.{FoldBounds}
 use Rattle.folds.specs.declared.FoldBounds.TheVariants.{Rows, NoSuchFold}

@@ -5,6 +5,7 @@
 // - a fold or row that there is none of gets an answer of its own, where the Rust's callers check first;
 // - `fold_of_row` is new: the Rust looks a row up in the lists of indices.
 #![tactic(auto)]
+
 ghost use Rattle.std.specs.Prelude.{◌≡◌, ◌≤◌, ◌<◌, min};
 ghost use Rattle.paper.specs.Folds.{even_border, even_borders, fold_of};
 ghost use Rattle.folds.specs.Found.{bounds_of, fold_found};

@@ -3,8 +3,6 @@
 use Rattle.std.specs.Prelude.{◌≡◌, List, ℕ, ℤ, Float, length}
 use Rattle.std.proofs.Common.{sym, ◌∙◌}
 use Rattle.paper.specs.declared.settings.Settings.{Settings}
-use Rattle.paper.specs.declared.answers.Marked.{Marked}
-use Rattle.paper.specs.declared.answers.Written.{Written}
 use Rattle.paper.specs.declared.answers.Counted.{Counted}
 use Rattle.paper.specs.declared.answers.Placed.{Placed}
 use Rattle.paper.specs.declared.answers.SplitFolds.{SplitFolds}

@@ -5,6 +5,7 @@
 // - walk-forward and rolling mark the rows behind the test rows as unused, where the Rust leaves them out of its lists;
 // - the embargo of the rolling layout is not worked out: it can reach no training row.
 #![tactic(auto)]
+
 ghost use Rattle.std.specs.Prelude.{◌≡◌, ◌+◌, ◌≤◌, ◌<◌, min, length};
 ghost use Rattle.paper.specs.Spans.{table};
 ghost use Rattle.paper.specs.Folds.{even_border, even_borders};

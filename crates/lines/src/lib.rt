@@ -2,6 +2,7 @@
 // Each function puts a text at a place and answers the place behind it. A text that does not fit is not written; the place
 // then lies past the buffer's end, where nothing fits, so a caller tests it once, at the end of the line.
 #![tactic(auto)]
+
 ghost use Rattle.std.specs.Prelude.{◌≡◌, [], ◌∷◌, ◌+◌, ◌≤◌, length};
 ghost use Rattle.text.specs.Numbers.{decimal_text};
 ghost use Rattle.lines.specs.Appended.{overwritten, Appended};

@@ -1,5 +1,6 @@
 // The public calls on lists that mark no purged split: plain folds and train times.
 #![tactic(auto)]
+
 pub mod naive_folds;
 pub mod train_spans;
 

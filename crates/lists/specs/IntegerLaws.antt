@@ -1,5 +1,5 @@
 -- The order of whole numbers as the tests `le_z` and `lt_z` decide it: reflexive, transitive, total.
-use Rattle.std.specs.Prelude.{◌≡◌, refl, Bool, true, false, ℕ, ℤ, pos, negsuc}
+use Rattle.std.specs.Prelude.{◌≡◌, refl, true, false, ℤ, pos, negsuc}
 use Rattle.std.proofs.Common.{arith, leb-true, ltb-true, ltb-false, le-leb}
 use Rattle.std.specs.Int.Signed.{le_z, lt_z}
 use Rattle.std.proofs.lemmas.Bool.{lt-leb}

@@ -1,5 +1,5 @@
 -- A signed 64-bit number is kept as bits; read back it is itself, and so are the tests of two of them.
-use Rattle.std.specs.Prelude.{◌≡◌, true, false, ◌&&◌, ℕ, ◌<◌, ◌^◌, ℤ}
+use Rattle.std.specs.Prelude.{◌≡◌, true, false, ◌&&◌, ◌<◌, ◌^◌, ℤ}
 use Rattle.std.proofs.Common.{sym, ◌∙◌, to_z, of_z, to_z-of_z}
 use Rattle.std.specs.Int.Signed.{mag, le_z, lt_z}
 use Rattle.std.specs.Int.{w64}

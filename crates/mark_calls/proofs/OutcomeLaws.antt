@@ -14,13 +14,13 @@ use Rattle.lists.specs.Base.{tally}
 use Rattle.paper.specs.declared.refusal.Refusal.{Refusal}
 use Rattle.paper.specs.declared.answers.Counts.{Counts}
 use Rattle.paper.specs.declared.answers.Marked.{Marked}
-use Rattle.paper.specs.Refusals.{Outcome, done, refused, nothing, said_refusal}
+use Rattle.paper.specs.Refusals.{done, refused, nothing, said_refusal}
 use Rattle.paper.specs.Answers.{said_marked}
 use Rattle.paper.specs.Marks.{Rule, by_window, by_pair, counts_of}
 use Rattle.paper.specs.Checks.{Check, checked, lent, empty_train, zero_size, nothing_to_test, no_such}
 use Rattle.checks.specs.declared.checked.Checked.{Checked}
 use Rattle.checks.specs.Said.{said_checked}
-use Rattle.checks.proofs.ChainLaws.{done_clear, append-clear, append_refused, then_fine, without17, lent_bad}
+use Rattle.checks.proofs.ChainLaws.{append-clear, append_refused, then_fine, without17, lent_bad}
 use Rattle.paper.specs.declared.numbers.FoldSet.{FoldSet}
 use Rattle.paper.specs.Spans.{table}
 use Rattle.paper.specs.Sets.{choose, entry, is_split}

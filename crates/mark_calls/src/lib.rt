@@ -1,5 +1,6 @@
 // The public calls that mark a split: k-fold and combinations by either rule, walk-forward, and the rolling layout.
 #![tactic(auto)]
+
 pub mod cross;
 pub mod forward;
 pub mod outcome;

@@ -6,6 +6,7 @@
 // - one engine for both rules, and where starts never decrease the pair rule goes the window's way (laws, Agreement);
 // - the overlap count is a call of its own.
 #![tactic(auto)]
+
 ghost use Rattle.std.specs.Prelude.{◌≡◌, ◌≤◌, length};
 ghost use Rattle.paper.specs.Spans.{table};
 ghost use Rattle.paper.specs.Marks.{marks_of};

@@ -4,10 +4,9 @@ use mathlib.Core.Bool.{Bool, true, false, not}
 use Prim.Native.Nat.{ℕ, ◌+◌, ◌-◌, ◌≤◌, ◌<◌}
 use native.Mathlib.Omega.{arith}
 use lib.Dec.{eqb}
-use Rattle.lists.specs.Base.{tab, bit, count, tally}
+use Rattle.lists.specs.Base.{tab, bit, tally}
 use Rattle.lists.specs.CountLaws.{tally-tab, count_ext, count_none, count-not}
 use Rattle.lists.specs.TabLaws.{tab_ext}
-use Rattle.paper.specs.declared.answers.Counts.{Counts}
 use Rattle.paper.specs.Folds.{within, even_border}
 use Rattle.paper.specs.Marks.{counts_of}
 use Rattle.paper.proofs.FoldsMeaning.{count-within, border_even}

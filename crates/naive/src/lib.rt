@@ -3,6 +3,7 @@
 // - one split a call, as marks in a lent list: 1 for the rows of the fold, 0 for all others;
 // - the counts are given beside them.
 #![tactic(auto)]
+
 ghost use Rattle.std.specs.Prelude.{◌≡◌, ◌≤◌, length};
 ghost use Rattle.lists.specs.Base.{tab, bit};
 ghost use Rattle.paper.specs.Folds.{within};

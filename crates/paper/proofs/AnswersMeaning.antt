@@ -1,7 +1,7 @@
 -- The answers in the paper's terms are one to one: two refusals with the same number that carry the same are the same
 -- refusal, and two answers that say the same are the same answer. And each result is said as it is.
 use mathlib.Core.Path.{◌≡◌, refl, sym, ap, ap₂, ◌∙◌}
-use mathlib.Core.Bool.{Bool, true, false, cond}
+use mathlib.Core.Bool.{true, false, cond}
 use Prim.Native.Nat.{ℕ}
 use native.Mathlib.Omega.{arith}
 use lib.Dec.{eqb}

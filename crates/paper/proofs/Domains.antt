@@ -1,7 +1,7 @@
 -- What each call that is not refused has been given: 01's domain of the call, read off its chain of checks ("Refusal numbers",
 -- "Rows, times, settings"). Workers rely on these records.
 use mathlib.Core.Path.{◌≡◌}
-use mathlib.Core.Bool.{Bool, true, false}
+use mathlib.Core.Bool.{true, false}
 use mathlib.Core.List.{List, [], ◌∷◌, ◌++◌}
 use Prim.Native.Nat.{ℕ, ◌+◌, ◌-◌, ◌*◌, ◌≤◌, ◌<◌}
 use lib.IntN.{ℤ}
@@ -9,7 +9,7 @@ use lib.Ieee.{Float, nan}
 use lib.ListN.{length, get_or}
 use Rattle.lists.specs.Base.{tally}
 use Rattle.paper.specs.declared.settings.Settings.{Settings}
-use Rattle.paper.specs.Spans.{Table, table, good}
+use Rattle.paper.specs.Spans.{table, good}
 use Rattle.paper.specs.Width.{is_fraction}
 use Rattle.paper.specs.Sets.{choose, too_many, is_split}
 use Rattle.paper.specs.Paths.{paths}

@@ -1,7 +1,7 @@
 -- What the embargo means (01, "Purge, embargo, marks"): from the end of its block it steps over the rows that start no later
 -- than the block's latest end, begins at the first other row, and covers width rows from there, cut at n.
-use mathlib.Core.Path.{◌≡◌, refl, ap, ◌∙◌}
-use mathlib.Core.Bool.{Bool, true, false, ◌&&◌, not, and-false}
+use mathlib.Core.Path.{◌≡◌, ap, ◌∙◌}
+use mathlib.Core.Bool.{true, false, ◌&&◌, not, and-false}
 use Prim.Native.Nat.{ℕ, ◌+◌, ◌-◌, ◌≤◌, ◌<◌, min}
 use native.Mathlib.Omega.{arith}
 use native.Mathlib.Decide.{dec_lt}

@@ -1,18 +1,17 @@
 -- The examples that 01 marks with ●, as one table: the definitions compute each of them ("Examples on the edges").
 use mathlib.Core.Path.{◌≡◌, refl}
-use mathlib.Core.Bool.{Bool, true, false}
 use mathlib.Core.List.{List, [], ◌∷◌}
 use Prim.Native.Nat.{ℕ}
-use lib.IntN.{ℤ, pos}
-use lib.Ieee.{Float, binary64, of_bits}
-use Rattle.lists.specs.Base.{tab, count, any, tally, first_from, join_from, bit}
+use lib.IntN.{pos}
+use lib.Ieee.{binary64, of_bits}
+use Rattle.lists.specs.Base.{tab, count, any, tally, first_from, join_from}
 use Rattle.paper.specs.Spans.{Table, table, reaches, later}
 use Rattle.paper.specs.Folds.{even_borders, even_border, folds}
 use Rattle.paper.specs.Blocks.{begins}
-use Rattle.paper.specs.Marks.{Rule, by_window, by_pair, Split, mark_of, marks_of}
+use Rattle.paper.specs.Marks.{Rule, by_window, by_pair, mark_of, marks_of}
 use Rattle.paper.specs.Layouts.{kfold, cpcv}
 use Rattle.paper.specs.Overlaps.{overlap_count}
-use Rattle.paper.specs.Sets.{choose, listing, each}
+use Rattle.paper.specs.Sets.{listing, each}
 use Rattle.paper.specs.Paths.{path_of, holds, tests_of}
 use Rattle.paper.specs.Width.{width_of}
 

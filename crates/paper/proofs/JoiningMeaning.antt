@@ -1,7 +1,7 @@
 -- What the places of joined returns mean (01, "Combinations and paths": Joining): they run through 0, 1, 2, .. split after
 -- split, and within a split row after row, a place for each row that the split tests.
 use mathlib.Core.Path.{◌≡◌, refl}
-use mathlib.Core.Bool.{Bool, true, false}
+use mathlib.Core.Bool.{true, false}
 use mathlib.Core.List.{List, [], ◌∷◌}
 use Prim.Native.Nat.{ℕ, ◌+◌, ◌<◌}
 use native.Mathlib.Numerals.{add-one}

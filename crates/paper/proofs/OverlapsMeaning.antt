@@ -1,9 +1,9 @@
 -- What the overlap count, the flags of `ml_get_train_times` and the naive marks mean.
 use mathlib.Core.Path.{◌≡◌, refl}
-use mathlib.Core.Bool.{Bool, true, false, not}
+use mathlib.Core.Bool.{true, false, not}
 use mathlib.Core.List.{List, [], ◌∷◌}
 use Prim.Native.Nat.{ℕ, ◌≤◌, ◌<◌}
-use lib.IntN.{ℤ, pos}
+use lib.IntN.{pos}
 use lib.ListN.{length, get_or}
 use Rattle.lists.specs.Base.{bit, tab, count, any}
 use Rattle.lists.specs.AnyLaws.{any_here, any_some}

@@ -1,7 +1,7 @@
 -- When each refusal is due (01, "Refusal numbers"), as facts on numbers: each check passes exactly when its fact holds, and a
 -- refusal that carries a place carries the first that fails. The last section has what each carries.
-use mathlib.Core.Path.{◌≡◌, refl, sym, ap, ◌∙◌}
-use mathlib.Core.Bool.{Bool, true, false, not, ◌||◌, ◌&&◌, not-not}
+use mathlib.Core.Path.{◌≡◌, refl, ap}
+use mathlib.Core.Bool.{Bool, true, false, not, ◌||◌}
 use mathlib.Core.List.{List, [], ◌∷◌, ◌++◌}
 use Prim.Native.Nat.{ℕ, ◌-◌, ◌*◌, ◌≤◌, ◌<◌, min}
 use native.Mathlib.Omega.{arith}
@@ -9,10 +9,10 @@ use lib.Dec.{leb, ltb, eqb}
 use lib.IntN.{ℤ, pos}
 use lib.ListN.{length, get_or}
 use lib.Ieee.{Float, nan, inf, fin}
-use borrow.Author.Tests.{ltb-true, ltb-false, leb-false, eqb-true, eqb-false, le-ltb, lt-leb, lt-ltb, eq-eqb, ne_eqb, not-true, not-false}
+use borrow.Author.Tests.{ltb-true, ltb-false, leb-false, eqb-true, eqb-false, le-ltb, lt-leb, eq-eqb, ne_eqb, not-false}
 use Rattle.lists.specs.Base.{first_from, first, tally}
 use Rattle.lists.specs.AnyLaws.{never}
-use Rattle.lists.specs.FirstLaws.{first_le, first_is, first_before, first_from_none}
+use Rattle.lists.specs.FirstLaws.{first_is, first_before, first_from_none}
 use Rattle.paper.specs.declared.refusal.Refusal.{Refusal}
 use Rattle.paper.specs.declared.refusal.Refusal.TheVariants.{
   NoRows,

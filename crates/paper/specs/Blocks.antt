@@ -1,7 +1,7 @@
 -- Blocks and windows (01, "Purge, embargo, marks"). A block is a maximal run of consecutive test rows, so adjacent test
 -- folds make one. It is known by its first row b: a test row whose neighbour before it is none. What belongs to a block is
 -- said of its rows b up to e.
-use Rattle.std.specs.Prelude.{Bool, ◌&&◌, not, ℕ, zero, suc, ◌-◌, ℤ}
+use Rattle.std.specs.Prelude.{◌&&◌, not, ℕ, zero, suc, ◌-◌, ℤ}
 use Rattle.lists.specs.Base.{first_from, over}
 use Rattle.paper.specs.declared.span.Span.{Span}
 use Rattle.paper.specs.Spans.{Table, later}

@@ -1,5 +1,5 @@
 -- The embargo after a block (01, "Purge, embargo, marks"). How many rows it covers, its width, is defined in Width.
-use Rattle.std.specs.Prelude.{Bool, ◌&&◌, not, ℕ, ◌+◌, ◌-◌, ℤ}
+use Rattle.std.specs.Prelude.{◌&&◌, not, ℕ, ◌+◌, ◌-◌, ℤ}
 use Rattle.lists.specs.Base.{any, first_from}
 use Rattle.paper.specs.Spans.{Table, reaches}
 use Rattle.paper.specs.Folds.{Rows, within}

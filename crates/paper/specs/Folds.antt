@@ -1,6 +1,6 @@
 -- Folds (01, "Rows, times, settings": Folds). Folds come as borders: fold f has the rows from border f up to border f + 1.
 -- Marks, blocks and joining speak of borders; even folds are one way to make them.
-use Rattle.std.specs.Prelude.{Bool, false, cond, ◌&&◌, ◌||◌, List, [], ◌∷◌, ℕ, zero, suc, ◌+◌, ◌/◌, ◌%◌, leb, ltb, get_or}
+use Rattle.std.specs.Prelude.{Bool, false, ◌&&◌, ◌||◌, List, [], ◌∷◌, ℕ, zero, suc, ◌+◌, ◌/◌, ◌%◌, leb, ltb, get_or}
 use Rattle.lists.specs.Base.{tab, first, bit}
 
 -- A set of rows: is the row in it?

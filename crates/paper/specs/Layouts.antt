@@ -1,6 +1,6 @@
 -- Which rows a numbered split tests, which take no part, and its embargo (01, "Purge, embargo, marks" and "Combinations
 -- and paths"): k-fold, combinations (CPCV), walk-forward and the rolling layout. bs are the borders of the folds.
-use Rattle.std.specs.Prelude.{Bool, false, List, ℕ, ◌+◌, ◌*◌, leb}
+use Rattle.std.specs.Prelude.{false, List, ℕ, ◌+◌, ◌*◌, leb}
 use Rattle.paper.specs.Folds.{Rows, within, border, fold, folds}
 use Rattle.paper.specs.Marks.{Split}
 use Rattle.paper.specs.Sets.{entry}

@@ -5,7 +5,7 @@ use Rattle.std.specs.Prelude.{List, ℕ, ℤ, Float, length}
 use Prim.{Unit, tt}
 use Rattle.paper.specs.declared.answers.Counts.{Counts}
 use Rattle.paper.specs.declared.settings.Settings.{Settings}
-use Rattle.paper.specs.Spans.{Table, table, span_of}
+use Rattle.paper.specs.Spans.{table, span_of}
 use Rattle.paper.specs.Folds.{even_borders}
 use Rattle.paper.specs.Width.{width_of}
 use Rattle.paper.specs.Marks.{Rule, by_window, by_pair, marks_of, counts_of}

@@ -1,7 +1,7 @@
 -- Times, spans and tables (01, "Rows, times, settings": tables, overlap, `ml_get_train_times`).
 -- Only the order of times matters. One test of two times stands behind overlap, refusal 4 and the embargo's stepping:
 -- `reaches`. `ml_get_train_times` compares times by a rule of its own.
-use Rattle.std.specs.Prelude.{Bool, cond, ◌&&◌, ◌||◌, not, List, ℕ, ℤ, pos, length, get_or}
+use Rattle.std.specs.Prelude.{Bool, cond, ◌&&◌, ◌||◌, List, ℕ, ℤ, pos, length, get_or}
 use Rattle.std.specs.Int.Signed.{le_z, lt_z}
 use Rattle.paper.specs.declared.span.Span.{Span}
 

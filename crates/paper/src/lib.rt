@@ -1,6 +1,7 @@
 // The value types of document 01: what a caller hands in beside the lent lists, and what comes back.
 // What they mean, and what each call answers, stands in specs/.
 #![tactic(auto)]
+
 pub mod answers;
 pub mod numbers;
 pub mod refusal;

@@ -5,5 +5,6 @@
 // - starts and ends of different lengths, and more than 1,048,576 rows, have refusals of their own;
 // - the lent list of marks is checked too.
 #![tactic(auto)]
+
 pub mod groups;
 pub mod layouts;

@@ -6,6 +6,7 @@
 // - no flags are kept: a row's place tells whether it is tested and embargoed;
 // - the pair rule looks at the test rows of a block only if the row overlaps their hull.
 #![tactic(auto)]
+
 ghost use Rattle.std.specs.Prelude.{◌≡◌, false, ◌≤◌, ◌<◌, length};
 ghost use Rattle.lists.specs.Base.{any_from};
 ghost use Rattle.paper.specs.Spans.{span_of, table};

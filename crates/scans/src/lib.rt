@@ -4,6 +4,7 @@
 // - the answer is a row number, the number of rows where there is no such span;
 // - the test of the starts is new: where they never decrease, the pair rule's marks are the window rule's.
 #![tactic(auto)]
+
 ghost use Rattle.std.specs.Prelude.{◌≡◌, ◌+◌, ◌<◌, length};
 ghost use Rattle.scans.specs.Falls.{is_fall, starts_fall};
 ghost use Rattle.scans.specs.FirstBackward.{first_backward, is_backward};

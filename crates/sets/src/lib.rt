@@ -1,6 +1,7 @@
 // Splits and paths by number, with nothing listed (01, "Combinations and paths").
 // What they are proved against is the plain listing of crate paper.
 #![tactic(auto)]
+
 pub mod binomial;
 pub mod next;
 pub mod numbering;

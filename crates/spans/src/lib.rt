@@ -2,6 +2,7 @@
 // Source: `intervals_overlap` of cross_validation.rs and `overlaps` of backtesting_engine.rs (01, "Rows, times, settings").
 // Changed against it: a time is a signed 64-bit number, and a pair of times a struct.
 #![tactic(auto)]
+
 ghost use Rattle.std.specs.Prelude.{◌≡◌};
 ghost use Rattle.paper.specs.Spans.{overlap};
 

@@ -1,5 +1,6 @@
 // The public calls on split and path numbers.
 #![tactic(auto)]
+
 pub mod splits;
 
 pub use splits::{

@@ -1,6 +1,7 @@
 // A slice of bytes as one number (01, "Report program"). The Rust has nothing like it.
 // Every function answers on any bytes; what it answers is what they spell, and `Bad` says that they spell nothing.
 #![tactic(auto)]
+
 ghost use Rattle.std.specs.Prelude.{◌≡◌, ◌<◌, ◌≤◌, ◌^◌, negsuc};
 ghost use Rattle.std.specs.Float.{binary64};
 ghost use Rattle.std.specs.Float.Ieee.{of_bits};

@@ -3,6 +3,7 @@
 // - one flag for each row, 1 kept and 0 dropped, where the Rust gives the list of the spans kept;
 // - a time is a signed 64-bit number.
 #![tactic(auto)]
+
 ghost use Rattle.std.specs.Prelude.{◌≡◌, ◌&&◌, not, ◌<◌, length};
 ghost use Rattle.std.specs.Int.Signed.{le_z};
 ghost use Rattle.lists.specs.Base.{bit};

@@ -4,6 +4,7 @@
 // - a number that is no fraction and a table too long are refused here, where the Rust's callers check first;
 // - the test is a function of its own, and leaves out `is_finite`, which [0,1) implies.
 #![tactic(auto)]
+
 ghost use Rattle.std.specs.Prelude.{◌≡◌, ◌≤◌, true};
 ghost use Rattle.paper.specs.Checks.{checked};
 ghost use Rattle.paper.specs.Width.{is_fraction, width_of};

@@ -1,7 +1,5 @@
 use mathlib.Core.Path.{◌≡◌, ap, ◌∙◌}
-use Prim.Native.Nat.{◌-◌, ◌≤◌}
 use native.Mathlib.Omega.{arith}
-use lib.ListN.{length}
 use lib.IntN.{pos}
 use mir.Syntax.{w64}
 use mir.Val.{to_z, of_z}
@@ -11,7 +9,7 @@ use Rattle.lists.specs.SignedLaws.{read}
 use Rattle.paper.specs.Spans.{table}
 use Rattle.paper.specs.Blocks.{latest}
 use Rattle.paper.specs.Embargo.{embargo_from}
-use Rattle.blocks.specs.Held.{nth, time, lowest, steps_to, Bounds}
+use Rattle.blocks.specs.Held.{nth, lowest, steps_to}
 use Rattle.blocks.proofs.bound_blocks.Goals as goal
 
 pub loop-j-init : goal.loop-j-init

@@ -1,7 +1,7 @@
 use mathlib.Core.Path.{◌≡◌, sym, ap, ◌∙◌}
 use mathlib.Core.Bool.{Bool, not, true, false}
 use mathlib.Core.List.{List}
-use Prim.Native.Nat.{ℕ, ◌-◌, ◌≤◌, ◌<◌, ◌^◌}
+use Prim.Native.Nat.{ℕ, ◌<◌, ◌^◌}
 use native.Mathlib.Omega.{arith}
 use lib.IntN.{ℤ}
 use lib.ListN.{length}
@@ -13,7 +13,7 @@ use Rattle.lists.specs.FirstLaws.{first_skip, first_hit, first_end}
 use Rattle.lists.specs.IntegerLaws.{lt_z_above, lt_z_not}
 use Rattle.lists.specs.SignedLaws.{read, lt_read}
 use Rattle.paper.specs.Spans.{reaches}
-use Rattle.blocks.specs.Held.{time, steps_to}
+use Rattle.blocks.specs.Held.{time}
 use Rattle.blocks.proofs.embargo_from.Goals as goal
 
 -- Row i starts after `latest`.

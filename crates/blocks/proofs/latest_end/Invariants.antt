@@ -1,12 +1,9 @@
 -- The latest time so far, in the loop.
 use mathlib.Core.Path.{◌≡◌}
 use Prim.Native.Nat.{◌-◌, ◌≤◌, ◌<◌}
-use native.Mathlib.Omega.{arith}
-use borrow.Author.Rules.{rules}
 use Rattle.lists.specs.Base.{over}
 use Rattle.paper.specs.Spans.{later}
 use Rattle.blocks.specs.Held.{time}
-use Rattle.blocks.proofs.RunLaws.{run_one, run_more}
 use Rattle.blocks.proofs.latest_end.Given as goal
 
 abbrev pub invariant-loop-i : goal.invariant-loop-i

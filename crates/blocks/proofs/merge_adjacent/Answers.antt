@@ -1,10 +1,6 @@
 use mathlib.Core.Path.{◌≡◌}
-use Prim.Native.Nat.{◌-◌, ◌≤◌}
 use native.Mathlib.Omega.{arith}
-use lib.ListN.{length}
 use borrow.Author.Rules.{rules}
-use Rattle.blocks.specs.Held.{nth}
-use Rattle.blocks.specs.Joined.{Joins}
 use Rattle.blocks.proofs.JoinLaws.{filled_set, joins_none, joins_more}
 use Rattle.blocks.proofs.merge_adjacent.Goals as goal
 

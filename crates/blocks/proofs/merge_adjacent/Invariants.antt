@@ -1,12 +1,9 @@
 -- Each range is joined to the blocks of those before it: `joins_more`.
 use mathlib.Core.Path.{◌≡◌}
 use Prim.Native.Nat.{◌-◌, ◌≤◌}
-use native.Mathlib.Omega.{arith}
 use lib.ListN.{length}
-use borrow.Author.Rules.{rules}
 use Rattle.blocks.specs.Held.{nth}
 use Rattle.blocks.specs.Joined.{Joins}
-use Rattle.blocks.proofs.JoinLaws.{filled_set, joins_none, joins_more}
 use Rattle.blocks.proofs.merge_adjacent.Given as goal
 
 abbrev pub invariant-loop-j : goal.invariant-loop-j

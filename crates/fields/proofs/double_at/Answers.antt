@@ -1,7 +1,6 @@
 -- The field is cut out where it ends, and read.
 use mathlib.Core.Path.{sym, ap, ◌∙◌}
 use native.Mathlib.Omega.{arith}
-use borrow.Author.Rules.{rules}
 use Rattle.text.specs.Answers.{said_double}
 use Rattle.text.specs.Numbers.{double_of}
 use Rattle.fields.proofs.FieldLaws.{field_none, field_is, field_bad}

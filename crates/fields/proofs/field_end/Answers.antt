@@ -1,5 +1,4 @@
 -- The end lies where the search ends: not before the field, not past the line.
-use borrow.Author.Rules.{rules}
 use Rattle.fields.proofs.FieldLaws.{find_ge, find_le}
 use Rattle.fields.proofs.field_end.Goals as goal
 

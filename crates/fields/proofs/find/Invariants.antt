@@ -1,15 +1,11 @@
 -- What is left to search gives the same as the whole search.
-use mathlib.Core.Path.{◌≡◌, refl, sym, ◌∙◌}
+use mathlib.Core.Path.{◌≡◌}
 use mathlib.Core.Bool.{Bool}
 use mathlib.Core.List.{List}
 use Prim.Native.Nat.{ℕ, ◌-◌}
-use native.Mathlib.Omega.{arith}
 use lib.Dec.{eqb}
 use lib.ListN.{length, get_or}
-use borrow.Author.Rules.{rules}
-use borrow.Author.Tests.{eq-eqb, ne_eqb}
 use Rattle.lists.specs.Base.{first_from}
-use Rattle.lists.specs.FirstLaws.{first_skip, first_hit, first_end}
 use Rattle.fields.specs.Parts.{find_from}
 use Rattle.fields.proofs.find.Given as goal
 

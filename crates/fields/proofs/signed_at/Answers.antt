@@ -3,7 +3,6 @@ use mathlib.Core.Path.{sym, ap, ◌∙◌}
 use Prim.Native.Nat.{◌<◌, ◌^◌}
 use native.Mathlib.Omega.{arith}
 use lib.Signed.{mag}
-use borrow.Author.Rules.{rules}
 use Rattle.lists.specs.SignedLaws.{read}
 use Rattle.text.specs.Answers.{said_signed}
 use Rattle.text.specs.Numbers.{signed_of}

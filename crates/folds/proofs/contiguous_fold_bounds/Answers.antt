@@ -1,5 +1,4 @@
 -- Either arm is the one that `bounds_of` takes.
-use borrow.Author.Rules.{rules}
 use borrow.Author.Tests.{lt-ltb, le-ltb}
 use Rattle.folds.proofs.contiguous_fold_bounds.Goals as goal
 

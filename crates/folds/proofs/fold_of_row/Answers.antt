@@ -1,5 +1,4 @@
 -- Each way out is the one that `fold_found` takes.
-use borrow.Author.Rules.{rules}
 use borrow.Author.Tests.{lt-ltb, le-ltb}
 use Rattle.folds.proofs.fold_of_row.Goals as goal
 

@@ -1,7 +1,6 @@
 -- The border by a product and a remainder: `even_border_closed`. Nothing wraps, as no border lies past the rows.
-use mathlib.Core.Path.{sym, ◌∙◌}
+use mathlib.Core.Path.{sym}
 use native.Mathlib.Omega.{arith}
-use borrow.Author.Rules.{rules}
 use Rattle.paper.proofs.FoldsMeaning.{even_border_closed, even_border-le}
 use Rattle.folds.proofs.fold_start.Goals as goal
 

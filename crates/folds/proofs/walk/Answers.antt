@@ -1,12 +1,10 @@
-use mathlib.Core.Path.{◌≡◌, ap, sym, ◌∙◌}
-use mathlib.Core.Bool.{Bool}
-use Prim.Native.Nat.{ℕ, ◌+◌, ◌-◌, ◌<◌}
+use mathlib.Core.Path.{◌≡◌, ap, ◌∙◌}
+use Prim.Native.Nat.{ℕ, ◌+◌, ◌<◌}
 use native.Mathlib.Omega.{arith}
 use lib.Dec.{ltb}
-use borrow.Author.Rules.{rules}
 use borrow.Author.Tests.{lt-ltb, le-ltb}
-use Rattle.lists.specs.SearchLaws.{Searched, search_start, search_hit, search_on, search_end}
-use Rattle.paper.specs.Folds.{border, even_border, even_borders}
+use Rattle.lists.specs.SearchLaws.{search_start, search_hit, search_on, search_end}
+use Rattle.paper.specs.Folds.{even_border}
 use Rattle.paper.proofs.FoldsMeaning.{border_even}
 use Rattle.folds.proofs.walk.Invariants.{ends_past}
 use Rattle.folds.proofs.walk.Goals as goal

@@ -1,14 +1,9 @@
 -- The walk over the folds is a search for the first that ends past the row.
-use mathlib.Core.Path.{◌≡◌, ap, sym, ◌∙◌}
 use mathlib.Core.Bool.{Bool}
-use Prim.Native.Nat.{ℕ, ◌+◌, ◌-◌, ◌<◌}
-use native.Mathlib.Omega.{arith}
+use Prim.Native.Nat.{ℕ, ◌+◌, ◌-◌}
 use lib.Dec.{ltb}
-use borrow.Author.Rules.{rules}
-use borrow.Author.Tests.{lt-ltb, le-ltb}
-use Rattle.lists.specs.SearchLaws.{Searched, search_start, search_hit, search_on, search_end}
-use Rattle.paper.specs.Folds.{border, even_border, even_borders}
-use Rattle.paper.proofs.FoldsMeaning.{border_even}
+use Rattle.lists.specs.SearchLaws.{Searched}
+use Rattle.paper.specs.Folds.{border, even_borders}
 use Rattle.folds.proofs.walk.Given as goal
 
 -- Fold f ends past the row.

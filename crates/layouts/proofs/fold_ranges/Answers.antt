@@ -1,14 +1,10 @@
 use mathlib.Core.Path.{◌≡◌}
-use Prim.Native.Nat.{◌-◌, ◌≤◌}
 use native.Mathlib.Omega.{arith}
-use lib.ListN.{length}
 use borrow.Author.Rules.{rules}
 use Rattle.lists.specs.StoreLaws.{stored_up}
 use Rattle.paper.specs.Folds.{even_borders}
 use Rattle.paper.specs.Handed.{list_of}
 use Rattle.laws.specs.Chosen.{fold_from, fold_to}
-use Rattle.blocks.specs.Held.{nth}
-use Rattle.layouts.specs.Tested.{RangesOf}
 use Rattle.layouts.proofs.LayoutLaws.{set_below, set_begin, set_end}
 use Rattle.layouts.proofs.fold_ranges.Goals as goal
 

@@ -1,7 +1,6 @@
 -- The fold is one range, from its border to the next.
 use mathlib.Core.Path.{refl}
 use lib.ListN.{length}
-use borrow.Author.Rules.{rules}
 use Rattle.paper.specs.Spans.{table}
 use Rattle.blocks.specs.Held.{rule_of}
 use Rattle.layouts.proofs.LayoutLaws.{rewritten, fold-fits, kfold_marks_lem}

@@ -1,6 +1,5 @@
 -- The folds of the set are ranges, in the order of the set.
 use mathlib.Core.Path.{refl}
-use borrow.Author.Rules.{rules}
 use Rattle.paper.specs.Spans.{table}
 use Rattle.blocks.specs.Held.{rule_of}
 use Rattle.layouts.proofs.LayoutLaws.{rewritten, set_ranges, set_marks}

@@ -2,7 +2,6 @@
 use mathlib.Core.Path.{refl}
 use native.Mathlib.Omega.{arith}
 use lib.ListN.{length}
-use borrow.Author.Rules.{rules}
 use Rattle.paper.specs.Spans.{table}
 use Rattle.blocks.specs.Held.{rule_of}
 use Rattle.layouts.proofs.LayoutLaws.{rewritten, one_ranges, one_marks}

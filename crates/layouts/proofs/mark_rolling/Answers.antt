@@ -1,7 +1,6 @@
 -- The rows from b on, cut at the last row.
 use mathlib.Core.Path.{ap}
 use Prim.Native.Nat.{◌+◌}
-use borrow.Author.Rules.{rules}
 use Rattle.paper.specs.Spans.{table}
 use Rattle.paper.specs.Marks.{by_pair}
 use Rattle.layouts.proofs.LayoutLaws.{rewritten, rolling_cut}

@@ -1,6 +1,5 @@
 -- The fold is one range, from its border to the next.
 use lib.ListN.{length}
-use borrow.Author.Rules.{rules}
 use Rattle.paper.specs.Spans.{table}
 use Rattle.paper.specs.Marks.{by_window}
 use Rattle.layouts.proofs.LayoutLaws.{rewritten, fold-fits, forward-marks}

@@ -1,6 +1,5 @@
 -- There is such a fold, and the bounds are its own.
 use mathlib.Core.Path.{sym, ◌∙◌}
-use borrow.Author.Rules.{rules}
 use Rattle.folds.proofs.BoundsLaws.{bounds_past, bounds_some}
 use Rattle.layouts.proofs.row_past.Goals as goal
 

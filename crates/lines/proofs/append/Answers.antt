@@ -1,6 +1,5 @@
 -- The two tests say that the text does not fit; behind them it does.
 use native.Mathlib.Omega.{arith}
-use borrow.Author.Rules.{rules}
 use Rattle.lines.proofs.AppendLaws.{append_is, append-not}
 use Rattle.lines.proofs.append.Goals as goal
 

@@ -1,6 +1,5 @@
 -- The kit writes the digits; a law says that they are the decimal.
 use native.Mathlib.Omega.{arith}
-use borrow.Author.Rules.{rules}
 use Rattle.lines.proofs.DigitsLaws.{decimal_digits}
 use Rattle.lines.proofs.append_decimal.Goals as goal
 

@@ -1,12 +1,9 @@
 use mathlib.Core.Path.{◌≡◌, refl, sym, ap, ◌∙◌}
-use mathlib.Core.List.{List}
-use Prim.Native.Nat.{ℕ, ◌+◌, ◌-◌, ◌≤◌}
+use Prim.Native.Nat.{◌+◌}
 use native.Mathlib.Numerals.{add-one}
 use native.Mathlib.Omega.{arith}
 use lib.ListN.{length, get_or, set, length-set}
 use lib.Seq.{paste, paste-zero, paste-suc, take-length}
-use borrow.Author.Rules.{rules}
-use Rattle.lines.proofs.copy.Invariants.{Copied}
 use Rattle.lines.proofs.copy.Goals as goal
 
 pub loop-i-init : goal.loop-i-init

@@ -1,12 +1,9 @@
 -- A copy of the first i bytes so far: the kit's laws of `paste`.
-use mathlib.Core.Path.{◌≡◌, refl, sym, ap, ◌∙◌}
+use mathlib.Core.Path.{◌≡◌}
 use mathlib.Core.List.{List}
-use Prim.Native.Nat.{ℕ, ◌+◌, ◌-◌, ◌≤◌}
-use native.Mathlib.Numerals.{add-one}
-use native.Mathlib.Omega.{arith}
-use lib.ListN.{length, get_or, set, length-set}
-use lib.Seq.{paste, paste-zero, paste-suc, take-length}
-use borrow.Author.Rules.{rules}
+use Prim.Native.Nat.{ℕ, ◌-◌, ◌≤◌}
+use lib.ListN.{length}
+use lib.Seq.{paste}
 use Rattle.lines.proofs.copy.Given as goal
 
 pub record Copied (out₀ : List ℕ) (at : ℕ) (src out : List ℕ) (i : ℕ) : Type 0 where

@@ -1,6 +1,5 @@
 -- The ranges are joined, the rule to work by is chosen, and neither changes the marks.
 use native.Mathlib.Omega.{arith}
-use borrow.Author.Rules.{rules}
 use Rattle.marks.proofs.WayLaws.{blocks_written}
 use Rattle.marks.proofs.mark_ranges.Goals as goal
 

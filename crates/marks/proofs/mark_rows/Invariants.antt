@@ -1,17 +1,13 @@
 -- The rows before i are marked and counted.
-use mathlib.Core.Path.{◌≡◌, sym, ◌∙◌}
+use mathlib.Core.Path.{◌≡◌}
 use mathlib.Core.List.{List}
-use Prim.Native.Nat.{ℕ, ◌-◌, ◌≤◌, ◌<◌}
-use native.Mathlib.Omega.{arith}
+use Prim.Native.Nat.{ℕ, ◌-◌, ◌≤◌}
 use lib.IntN.{ℤ}
-use lib.ListN.{length, take, length-set}
-use borrow.Author.Rules.{rules}
+use lib.ListN.{length, take}
 use Rattle.lists.specs.Base.{tab}
-use Rattle.lists.specs.TabLaws.{tab_none, tab_more, tab_all}
 use Rattle.paper.specs.declared.answers.Counts.{Counts}
 use Rattle.paper.specs.Spans.{table}
 use Rattle.paper.specs.Marks.{mark_of, counts_of}
-use Rattle.laws.specs.MarkCounts.{AtMost, counts_of_zero, counts_of_more, counts_of-le}
 use Rattle.blocks.specs.declared.Rule.{Rule}
 use Rattle.blocks.specs.Held.{rule_of, array_split}
 use Rattle.marks.proofs.mark_rows.Given as goal

@@ -1,6 +1,5 @@
 -- The enum tells the rule, the scan whether starts fall.
 use mathlib.Core.Path.{sym, ◌∙◌}
-use borrow.Author.Rules.{rules}
 use Rattle.marks.proofs.way.Goals as goal
 
 pub returns-then-starts_fall : goal.returns-then-starts_fall

@@ -1,4 +1,3 @@
-use native.Mathlib.Omega.{arith}
 use Rattle.paper.proofs.FoldsMeaning.{within_in, within_before, within-behind}
 use Rattle.naive.proofs.mark_of.Goals as goal
 

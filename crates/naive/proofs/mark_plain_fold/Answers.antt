@@ -1,7 +1,6 @@
 -- The range of the fold; that there is no such fold cannot be.
-use mathlib.Core.Path.{◌≡◌, sym, ap, ◌∙◌}
+use mathlib.Core.Path.{sym, ap, ◌∙◌}
 use lib.ListN.{length}
-use borrow.Author.Rules.{rules}
 use Rattle.paper.specs.Marks.{counts_of}
 use Rattle.folds.proofs.BoundsLaws.{bounds_some}
 use Rattle.naive.proofs.PlainCounts.{plain_bounds, plain_marks}

@@ -1,5 +1,4 @@
 use lib.ListN.{length}
-use borrow.Author.Rules.{rules}
 use Rattle.naive.proofs.PlainCounts.{plain_counts}
 use Rattle.naive.proofs.mark_range.Goals as goal
 

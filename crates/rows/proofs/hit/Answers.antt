@@ -2,7 +2,6 @@
 use mathlib.Core.Path.{◌≡◌, sym, ◌∙◌}
 use mathlib.Core.Bool.{false}
 use Prim.Native.Nat.{ℕ}
-use borrow.Author.Rules.{rules}
 use Rattle.paper.specs.declared.span.Span.{Span}
 use Rattle.paper.specs.Spans.{Table, table, overlap}
 use Rattle.blocks.specs.declared.Rule.{Rule}

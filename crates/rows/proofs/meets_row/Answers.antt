@@ -1,9 +1,6 @@
 use mathlib.Core.Path.{◌≡◌, sym, ◌∙◌}
-use mathlib.Core.Bool.{false}
-use Prim.Native.Nat.{◌-◌, ◌≤◌}
 use native.Mathlib.Omega.{arith}
 use borrow.Author.Rules.{rules}
-use Rattle.lists.specs.Base.{any_from}
 use Rattle.lists.specs.AnyLaws.{any_from_zero, any_from-here, any_from_miss}
 use Rattle.paper.specs.Spans.{table}
 use Rattle.rows.specs.Asked.{meets_at}

@@ -1,11 +1,8 @@
 -- A search over the rows b up to e: none of those passed is overlapped.
-use mathlib.Core.Path.{◌≡◌, sym, ◌∙◌}
+use mathlib.Core.Path.{◌≡◌}
 use mathlib.Core.Bool.{false}
 use Prim.Native.Nat.{◌-◌, ◌≤◌}
-use native.Mathlib.Omega.{arith}
-use borrow.Author.Rules.{rules}
 use Rattle.lists.specs.Base.{any_from}
-use Rattle.lists.specs.AnyLaws.{any_from_zero, any_from-here, any_from_miss}
 use Rattle.paper.specs.Spans.{table}
 use Rattle.rows.specs.Asked.{meets_at}
 use Rattle.rows.proofs.meets_row.Given as goal

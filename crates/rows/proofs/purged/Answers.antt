@@ -1,12 +1,7 @@
 use mathlib.Core.Path.{◌≡◌, sym, ◌∙◌}
-use mathlib.Core.Bool.{false}
-use Prim.Native.Nat.{◌-◌, ◌≤◌}
 use native.Mathlib.Omega.{arith}
 use borrow.Author.Rules.{rules}
 use Rattle.lists.specs.AnyLaws.{any_zero, any_here, any_miss}
-use Rattle.paper.specs.Spans.{span_of, table}
-use Rattle.blocks.specs.Held.{nth}
-use Rattle.rows.specs.Asked.{purged_by}
 use Rattle.rows.proofs.purged.Goals as goal
 
 pub loop-j-init : goal.loop-j-init

@@ -1,10 +1,7 @@
 -- A search over the blocks: none of those passed purges the row.
-use mathlib.Core.Path.{◌≡◌, sym, ◌∙◌}
+use mathlib.Core.Path.{◌≡◌}
 use mathlib.Core.Bool.{false}
 use Prim.Native.Nat.{◌-◌, ◌≤◌}
-use native.Mathlib.Omega.{arith}
-use borrow.Author.Rules.{rules}
-use Rattle.lists.specs.AnyLaws.{any_zero, any_here, any_miss}
 use Rattle.paper.specs.Spans.{span_of, table}
 use Rattle.blocks.specs.Held.{nth}
 use Rattle.rows.specs.Asked.{purged_by}

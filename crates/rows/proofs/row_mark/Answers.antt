@@ -2,7 +2,6 @@
 use mathlib.Core.Path.{sym, ap₂, ◌∙◌}
 use mathlib.Core.Bool.{false}
 use lib.Dec.{leb}
-use borrow.Author.Rules.{rules}
 use borrow.Author.Tests.{le-leb, lt-leb}
 use Rattle.paper.specs.Marks.{mark}
 use Rattle.rows.proofs.RowLaws.{row_marked}

@@ -1,11 +1,7 @@
 use mathlib.Core.Path.{◌≡◌, sym, ◌∙◌}
-use mathlib.Core.Bool.{false}
-use Prim.Native.Nat.{◌-◌, ◌≤◌}
 use native.Mathlib.Omega.{arith}
 use borrow.Author.Rules.{rules}
 use Rattle.lists.specs.AnyLaws.{any_zero, any_here, any_miss}
-use Rattle.laws.specs.Ranges.{ranged}
-use Rattle.blocks.specs.Held.{nth}
 use Rattle.rows.proofs.tested.Goals as goal
 
 pub loop-j-init : goal.loop-j-init

@@ -1,10 +1,7 @@
 -- A search over the blocks: none of those passed has the row.
-use mathlib.Core.Path.{◌≡◌, sym, ◌∙◌}
+use mathlib.Core.Path.{◌≡◌}
 use mathlib.Core.Bool.{false}
 use Prim.Native.Nat.{◌-◌, ◌≤◌}
-use native.Mathlib.Omega.{arith}
-use borrow.Author.Rules.{rules}
-use Rattle.lists.specs.AnyLaws.{any_zero, any_here, any_miss}
 use Rattle.laws.specs.Ranges.{ranged}
 use Rattle.blocks.specs.Held.{nth}
 use Rattle.rows.proofs.tested.Given as goal

@@ -4,7 +4,6 @@ use mathlib.Core.Bool.{not, not-not}
 use lib.ListN.{get_or}
 use lib.IntN.{pos}
 use lib.Signed.{lt_z}
-use borrow.Author.Rules.{rules}
 use Rattle.lists.specs.SignedLaws.{lt_read}
 use Rattle.paper.specs.Spans.{table}
 use Rattle.paper.proofs.SpansMeaning.{good_is}

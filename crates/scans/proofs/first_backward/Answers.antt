@@ -1,10 +1,6 @@
-use Prim.Native.Nat.{◌-◌}
 use native.Mathlib.Omega.{arith}
-use lib.ListN.{length}
 use mathlib.Core.Path.{sym, ◌∙◌}
-use borrow.Author.Rules.{rules}
-use Rattle.lists.specs.SearchLaws.{Searched, search_start, search_hit, search_on, search_end}
-use Rattle.scans.specs.FirstBackward.{is_backward}
+use Rattle.lists.specs.SearchLaws.{search_start, search_hit, search_on, search_end}
 use Rattle.scans.proofs.first_backward.Goals as goal
 
 pub loop-i-init : goal.loop-i-init
@@ -19,4 +15,4 @@ loop-i-preserved c =
     search_on _ _ c.loop-i.i c.loop-i.invariant (omega arith) (sym c.backward.ensures ∙ c.if-backward.false)
 
 pub returns : goal.returns
-returns c =  search_end _ _ c.loop-i.i c.loop-i.invariant (omega arith)
+returns c = search_end _ _ c.loop-i.i c.loop-i.invariant (omega arith)

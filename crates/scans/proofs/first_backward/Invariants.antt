@@ -1,10 +1,7 @@
 -- A search over the rows.
 use Prim.Native.Nat.{◌-◌}
-use native.Mathlib.Omega.{arith}
 use lib.ListN.{length}
-use mathlib.Core.Path.{sym, ◌∙◌}
-use borrow.Author.Rules.{rules}
-use Rattle.lists.specs.SearchLaws.{Searched, search_start, search_hit, search_on, search_end}
+use Rattle.lists.specs.SearchLaws.{Searched}
 use Rattle.scans.specs.FirstBackward.{is_backward}
 use Rattle.scans.proofs.first_backward.Given as goal
 

@@ -1,12 +1,9 @@
 use mathlib.Core.Path.{◌≡◌, sym, ◌∙◌}
-use mathlib.Core.Bool.{false}
-use Prim.Native.Nat.{◌-◌, ◌≤◌}
+use Prim.Native.Nat.{◌-◌}
 use native.Mathlib.Omega.{arith}
 use lib.ListN.{length}
 use borrow.Author.Rules.{rules}
-use Rattle.lists.specs.Base.{any}
 use Rattle.lists.specs.AnyLaws.{any_zero, any_here, any_miss}
-use Rattle.scans.specs.Falls.{is_fall}
 use Rattle.scans.proofs.starts_fall.Goals as goal
 
 pub loop-i-init : goal.loop-i-init

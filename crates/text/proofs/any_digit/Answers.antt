@@ -1,6 +1,5 @@
 -- Each way out is the one that `digit_of` takes.
 use native.Mathlib.Omega.{arith}
-use borrow.Author.Rules.{rules}
 use borrow.Author.Tests.{le-leb, lt-leb}
 use Rattle.text.specs.Numbers.{digit_of}
 use Rattle.text.proofs.any_digit.Goals as goal

@@ -2,7 +2,6 @@
 use lib.IntN.{negsuc}
 use Rattle.lists.specs.SignedLaws.{read}
 use Rattle.text.proofs.SignLaws.{minus_is}
-use borrow.Author.Rules.{rules}
 use Rattle.text.proofs.below_zero.Goals as goal
 
 pub overflow_sub-result : goal.overflow_sub-result

@@ -1,5 +1,4 @@
 -- Each way out is the one that `below` takes.
-use borrow.Author.Rules.{rules}
 use borrow.Author.Tests.{lt-ltb, le-ltb}
 use Rattle.text.proofs.digit.Goals as goal
 

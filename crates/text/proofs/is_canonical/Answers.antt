@@ -1,7 +1,6 @@
 -- Each way out is the one that `canonical` takes.
 use native.Mathlib.Omega.{arith}
 use lib.ListN.{length}
-use borrow.Author.Rules.{rules}
 use borrow.Author.Tests.{lt-ltb, ne_eqb}
 use Rattle.text.proofs.is_canonical.Goals as goal
 

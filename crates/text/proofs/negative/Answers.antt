@@ -1,7 +1,6 @@
 -- Each way out is the one that `downward` takes.
 use Rattle.text.proofs.SignLaws.{down_is, down_over}
 use native.Mathlib.Omega.{arith}
-use borrow.Author.Rules.{rules}
 use Rattle.text.proofs.negative.Goals as goal
 
 pub returns-then-n-le9223372036854775808 : goal.returns-then-n-le9223372036854775808

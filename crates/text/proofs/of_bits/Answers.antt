@@ -2,7 +2,6 @@
 use lib.Ieee.{div, of_bits}
 use Rattle.text.proofs.NanLaws.{nan_above, nan_not}
 use native.Mathlib.Omega.{arith}
-use borrow.Author.Rules.{rules}
 use Rattle.text.proofs.of_bits.Goals as goal
 
 pub returns-then-bits-gt9218868437227405312 : goal.returns-then-bits-gt9218868437227405312

@@ -1,7 +1,6 @@
 -- Each way out is the one that `upward` takes.
 use Rattle.text.proofs.SignLaws.{up_is, up-over}
 use native.Mathlib.Omega.{arith}
-use borrow.Author.Rules.{rules}
 use Rattle.text.proofs.positive.Goals as goal
 
 pub returns-then-n-lt9223372036854775808 : goal.returns-then-n-lt9223372036854775808

@@ -1,6 +1,5 @@
 -- Either arm is the one that `decimal_of` takes.
 use mathlib.Core.Path.{sym, ◌∙◌}
-use borrow.Author.Rules.{rules}
 use Rattle.text.specs.Numbers.{decimal_of}
 use Rattle.text.proofs.read_decimal.Goals as goal
 

@@ -5,7 +5,6 @@ use mathlib.Core.Option.{none, some}
 use Prim.Native.Nat.{ℕ}
 use native.Mathlib.Omega.{arith}
 use lib.ListN.{length, get_or}
-use borrow.Author.Rules.{rules}
 use Rattle.text.specs.Numbers.{letter_of}
 use Rattle.text.proofs.read_letter.Goals as goal
 

@@ -1,6 +1,5 @@
 -- Each way out is the one that `signed_of` takes.
 use mathlib.Core.Path.{◌∙◌}
-use borrow.Author.Rules.{rules}
 use Rattle.text.proofs.SignLaws.{signed_none, signed_down, signed_up}
 use Rattle.text.proofs.read_signed.Goals as goal
 

@@ -1,13 +1,12 @@
 use mathlib.Core.Path.{◌≡◌, refl, sym, ap, ◌∙◌}
 use mathlib.Core.Option.{some}
-use Prim.Native.Nat.{◌+◌, ◌*◌, ◌-◌, ◌^◌, ◌<◌}
+use Prim.Native.Nat.{◌+◌, ◌*◌, ◌^◌, ◌<◌}
 use native.Mathlib.Omega.{arith}
-use lib.ListN.{length, get_or}
-use borrow.Author.Rules.{rules}
+use lib.ListN.{get_or}
 use Rattle.text.specs.Answers.{said_decimal}
 use Rattle.text.specs.Numbers.{digit_of, below}
 use Rattle.text.proofs.BehindLaws.{below_some}
-use Rattle.text.proofs.WordLaws.{Read, fits, over, word_not, word_over, word_more, word_end}
+use Rattle.text.proofs.WordLaws.{fits, over, word_not, word_over, word_more, word_end}
 use Rattle.text.proofs.word.Goals as goal
 use Rattle.text.proofs.word.Goals.{Else-v-d, In-Is}
 

@@ -1,10 +1,8 @@
 -- The three ways to be dropped, in the order of `drops`. A time handed over is read back from its bits.
 use mathlib.Core.Path.{◌≡◌, sym, ◌∙◌}
-use mathlib.Core.Bool.{true, false, or-true}
 use Prim.Native.Nat.{◌<◌, ◌^◌}
 use native.Mathlib.Omega.{arith}
 use lib.Signed.{mag}
-use borrow.Author.Rules.{rules}
 use Rattle.lists.specs.SignedLaws.{read}
 use Rattle.paper.specs.Spans.{lies_in}
 use Rattle.train_times.proofs.dropped.Goals as goal

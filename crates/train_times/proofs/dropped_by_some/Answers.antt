@@ -1,10 +1,7 @@
 use mathlib.Core.Path.{◌≡◌, sym, ap, ◌∙◌}
-use mathlib.Core.Bool.{false}
-use Prim.Native.Nat.{◌≤◌, ◌-◌}
 use native.Mathlib.Omega.{arith}
 use lib.ListN.{length}
 use borrow.Author.Rules.{rules}
-use Rattle.lists.specs.Base.{any}
 use Rattle.lists.specs.AnyLaws.{any_zero, any_miss, any_here}
 use Rattle.paper.specs.Spans.{span_of, drops}
 use Rattle.train_times.proofs.dropped_by_some.Goals as goal

@@ -1,6 +1,5 @@
 -- The bit of the negated answer.
 use mathlib.Core.Path.{sym, ◌∙◌}
-use borrow.Author.Rules.{rules}
 use Rattle.train_times.proofs.flag.Goals as goal
 
 pub returns-then-dropped_by_some : goal.returns-then-dropped_by_some

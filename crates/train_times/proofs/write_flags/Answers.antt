@@ -1,14 +1,11 @@
-use mathlib.Core.Path.{◌≡◌, ap, ◌∙◌}
+use mathlib.Core.Path.{ap, ◌∙◌}
 use mathlib.Core.Bool.{not}
-use Prim.Native.Nat.{ℕ, ◌≤◌, ◌<◌, ◌-◌}
+use Prim.Native.Nat.{◌<◌}
 use native.Mathlib.Omega.{arith}
-use lib.IntN.{ℤ}
-use mathlib.Core.List.{List}
-use lib.ListN.{length, take, length-set}
+use lib.ListN.{length, length-set}
 use borrow.Author.Rules.{rules}
-use Rattle.lists.specs.Base.{tab, bit}
+use Rattle.lists.specs.Base.{bit}
 use Rattle.lists.specs.TabLaws.{tab_none, tab_more, tab_all}
-use Rattle.paper.specs.Spans.{span_of}
 use Rattle.train_times.specs.Lent.{dropped_by_some}
 use Rattle.train_times.proofs.write_flags.Invariants.{flag_of}
 use Rattle.train_times.proofs.write_flags.Goals as goal

@@ -1,14 +1,11 @@
 -- The list is filled row by row: up to i it is what `train_flags` makes of the rows below i.
-use mathlib.Core.Path.{◌≡◌, ap, ◌∙◌}
+use mathlib.Core.Path.{◌≡◌}
 use mathlib.Core.Bool.{not}
-use Prim.Native.Nat.{ℕ, ◌≤◌, ◌<◌, ◌-◌}
-use native.Mathlib.Omega.{arith}
+use Prim.Native.Nat.{ℕ, ◌≤◌, ◌-◌}
 use lib.IntN.{ℤ}
 use mathlib.Core.List.{List}
-use lib.ListN.{length, take, length-set}
-use borrow.Author.Rules.{rules}
+use lib.ListN.{length, take}
 use Rattle.lists.specs.Base.{tab, bit}
-use Rattle.lists.specs.TabLaws.{tab_none, tab_more, tab_all}
 use Rattle.paper.specs.Spans.{span_of}
 use Rattle.train_times.specs.Lent.{dropped_by_some}
 use Rattle.train_times.proofs.write_flags.Given as goal

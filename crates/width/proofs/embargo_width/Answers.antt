@@ -1,5 +1,5 @@
 -- Each way out is what the chain of checks gives there.
-use Rattle.std.proofs.Common.{sym, ◌∙◌, rules, le-ltb, lt-ltb}
+use Rattle.std.proofs.Common.{sym, ◌∙◌, le-ltb, lt-ltb}
 use Rattle.paper.specs.Checks.{checked}
 use Rattle.width.proofs.embargo_width.Goals as goal
 

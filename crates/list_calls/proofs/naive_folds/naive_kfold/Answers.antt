@@ -1,7 +1,6 @@
 -- Refused as the checks found; else the worker's marks and counts.
 use mathlib.Core.Path.{refl, sym, ap, ◌∙◌}
 use lib.ListN.{length}
-use borrow.Author.Rules.{rules}
 use Rattle.paper.specs.Refusals.{done}
 use Rattle.paper.specs.Marks.{counts_of}
 use Rattle.paper.specs.Overlaps.{naive_marks}

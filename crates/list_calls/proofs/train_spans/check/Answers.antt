@@ -1,7 +1,6 @@
 use mathlib.Core.Path.{◌∙◌}
 use mathlib.Core.List.{[], ◌∷◌}
 use lib.ListN.{length}
-use borrow.Author.Rules.{rules}
 use Rattle.paper.specs.Checks.{lengths_differ, wrong_length}
 use Rattle.checks.specs.declared.checked.Checked.{Checked}
 use Rattle.checks.proofs.ChainLaws.{then_append}

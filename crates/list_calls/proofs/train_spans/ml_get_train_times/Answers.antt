@@ -2,7 +2,6 @@
 use mathlib.Core.Path.{refl, sym, ◌∙◌}
 use Prim.{tt}
 use lib.ListN.{length}
-use borrow.Author.Rules.{rules}
 use Rattle.paper.specs.Checks.{train_times_checks}
 use Rattle.paper.specs.RowCalls.{flags_of}
 use Rattle.paper.proofs.ChecksMeaning.{clear_each}

@@ -1,17 +1,14 @@
 -- Refused as the checks found; else the marks of the folds of the split's set, with the width of the fraction, and 17 behind them.
-use mathlib.Core.Path.{◌≡◌, refl, sym, ap, ap₂, ◌∙◌}
+use mathlib.Core.Path.{refl, ap, ap₂, ◌∙◌}
 use mathlib.Core.List.{List, [], ◌∷◌, ◌++◌}
-use Prim.Native.Nat.{ℕ, ◌≤◌, ◌<◌}
-use native.Mathlib.Omega.{arith}
+use Prim.Native.Nat.{ℕ, ◌<◌}
 use lib.IntN.{ℤ}
 use lib.ListN.{length}
-use borrow.Author.Rules.{rules}
 use Rattle.paper.specs.declared.settings.Settings.{Settings}
 use Rattle.paper.specs.Spans.{table}
 use Rattle.paper.specs.Folds.{folds, even_borders}
 use Rattle.paper.specs.Layouts.{cross}
-use Rattle.paper.specs.Handed.{list_of}
-use Rattle.paper.specs.Sets.{choose, entry}
+use Rattle.paper.specs.Sets.{choose}
 use Rattle.paper.specs.Marks.{by_window, marks_of, counts_of}
 use Rattle.paper.specs.Checks.{Check, table_checks, combination_checks, no_such}
 use Rattle.paper.specs.RowCalls.{cpcv_marks}

@@ -1,10 +1,9 @@
 -- Refused as the checks found; else the marks of the fold, with the width of the fraction, and 17 behind them.
-use mathlib.Core.Path.{◌≡◌, refl, sym, ap, ◌∙◌}
+use mathlib.Core.Path.{refl, ap, ◌∙◌}
 use mathlib.Core.List.{List, [], ◌∷◌, ◌++◌}
 use Prim.Native.Nat.{ℕ, ◌<◌}
 use lib.IntN.{ℤ}
 use lib.ListN.{length}
-use borrow.Author.Rules.{rules}
 use Rattle.paper.specs.declared.settings.Settings.{Settings}
 use Rattle.paper.specs.Spans.{table}
 use Rattle.paper.specs.Folds.{even_borders}

@@ -1,12 +1,11 @@
 -- Refused as the checks found; else the marks of the rows from a + s·step on, and 17 behind them.
-use mathlib.Core.Path.{◌≡◌, refl, sym, ap, ◌∙◌}
+use mathlib.Core.Path.{refl}
 use mathlib.Core.List.{List, [], ◌∷◌, ◌++◌}
 use Prim.Native.Nat.{ℕ, ◌+◌, ◌*◌, ◌≤◌, ◌<◌}
 use native.Mathlib.Omega.{arith}
 use lib.IntN.{ℤ}
 use lib.Ieee.{Float}
 use lib.ListN.{length}
-use borrow.Author.Rules.{rules}
 use Rattle.paper.specs.Marks.{by_pair}
 use Rattle.paper.specs.Checks.{Check, zero_size, nothing_to_test, no_such}
 use Rattle.paper.specs.RowCalls.{rolling_marks}

@@ -1,9 +1,8 @@
 -- Refused as the checks found; else the marks of fold m + s.
-use mathlib.Core.Path.{◌≡◌, refl, sym, ap, ◌∙◌}
-use Prim.Native.Nat.{ℕ, ◌-◌, ◌≤◌, ◌<◌}
+use mathlib.Core.Path.{refl}
+use Prim.Native.Nat.{◌-◌, ◌≤◌, ◌<◌}
 use native.Mathlib.Omega.{arith}
 use lib.ListN.{length}
-use borrow.Author.Rules.{rules}
 use Rattle.paper.specs.Marks.{by_window}
 use Rattle.paper.specs.Checks.{walk_forward_checks}
 use Rattle.paper.specs.RowCalls.{walk_forward_marks}

@@ -1,4 +1,3 @@
-use borrow.Author.Rules.{rules}
 use borrow.Author.Tests.{eq-eqb, ne_eqb}
 use Rattle.paper.specs.Checks.{checked}
 use Rattle.mark_calls.proofs.outcome.trained.Goals as goal

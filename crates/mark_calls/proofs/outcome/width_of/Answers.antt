@@ -4,9 +4,8 @@ use Prim.Native.Nat.{ℕ, ◌≤◌}
 use native.Mathlib.Omega.{arith}
 use mathlib.Core.Bool.{true}
 use lib.Ieee.{Float}
-use borrow.Author.Rules.{rules}
 use borrow.Author.Tests.{le-ltb}
-use Rattle.paper.specs.Refusals.{Outcome, done}
+use Rattle.paper.specs.Refusals.{done}
 use Rattle.paper.specs.Checks.{checked}
 use Rattle.paper.specs.Width.{is_fraction, width_of}
 use Rattle.width.specs.Answer.{said_width, width_checks}

@@ -1,6 +1,5 @@
 -- Where the mark is v nothing more is asked; else `one` says the rest.
 use native.Mathlib.Omega.{arith}
-use borrow.Author.Rules.{rules}
 use borrow.Author.Tests.{eq-eqb, ne_eqb}
 use Rattle.marks.proofs.counts.either.Goals as goal
 

@@ -1,5 +1,4 @@
 -- The four sums are those of `one_more`.
-use borrow.Author.Rules.{rules}
 use Rattle.marks.proofs.counts.one_more.Goals as goal
 
 pub returns : goal.returns

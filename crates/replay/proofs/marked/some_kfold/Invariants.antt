@@ -1,4 +1,4 @@
-use Rattle.std.proofs.Common.{◌≡◌, ◌-◌, ◌≤◌, length, rules}
+use Rattle.std.proofs.Common.{◌≡◌, ◌-◌, ◌≤◌, length}
 use Rattle.replay.proofs.marked.some_kfold.Given as goal
 
 abbrev pub invariant-loop-s : goal.invariant-loop-s

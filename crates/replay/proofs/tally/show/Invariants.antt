@@ -1,4 +1,4 @@
-use Rattle.std.proofs.Common.{◌-◌, ◌≤◌, rules}
+use Rattle.std.proofs.Common.{◌-◌, ◌≤◌}
 use Rattle.replay.proofs.tally.show.Given as goal
 
 abbrev pub invariant-loop-kind : goal.invariant-loop-kind

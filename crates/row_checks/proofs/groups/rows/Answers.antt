@@ -1,6 +1,5 @@
 use mathlib.Core.Path.{◌∙◌}
 use mathlib.Core.List.{[], ◌∷◌}
-use borrow.Author.Rules.{rules}
 use Rattle.paper.specs.Checks.{no_rows, too_many_rows}
 use Rattle.checks.proofs.ChainLaws.{then_append}
 use Rattle.row_checks.proofs.groups.rows.Goals as goal

@@ -1,5 +1,4 @@
 use mathlib.Core.Path.{◌∙◌}
-use borrow.Author.Rules.{rules}
 use Rattle.row_checks.proofs.groups.sizes.Goals as goal
 
 pub returns : goal.returns

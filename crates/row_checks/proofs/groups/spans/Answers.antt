@@ -1,5 +1,4 @@
 use mathlib.Core.Path.{◌∙◌}
-use borrow.Author.Rules.{rules}
 use Rattle.row_checks.proofs.groups.spans.Goals as goal
 
 pub first_backward-row-requires : goal.first_backward-row-requires

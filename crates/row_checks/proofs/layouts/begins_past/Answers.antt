@@ -1,4 +1,3 @@
-use borrow.Author.Rules.{rules}
 use Rattle.row_checks.proofs.RollingStarts.{quotient_past}
 use Rattle.row_checks.proofs.layouts.begins_past.Goals as goal
 

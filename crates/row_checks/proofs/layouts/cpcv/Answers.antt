@@ -1,6 +1,5 @@
 use mathlib.Core.Path.{◌∙◌}
 use mathlib.Core.List.{[], ◌∷◌, ◌++◌}
-use borrow.Author.Rules.{rules}
 use Rattle.paper.specs.Sets.{choose}
 use Rattle.paper.specs.Checks.{table_checks, combination_checks, no_such}
 use Rattle.paper.proofs.ChecksMeaning.{clear_each}

@@ -2,7 +2,6 @@
 use mathlib.Core.Path.{◌≡◌, ◌∙◌}
 use mathlib.Core.List.{List, [], ◌∷◌, ◌++◌}
 use Prim.{tt}
-use borrow.Author.Rules.{rules}
 use lib.ListN.{length}
 use lib.IntN.{ℤ}
 use Rattle.paper.specs.declared.settings.Settings.{Settings}

@@ -1,6 +1,5 @@
 use mathlib.Core.Path.{◌∙◌}
 use native.Mathlib.Omega.{arith}
-use borrow.Author.Rules.{rules}
 use Rattle.row_checks.proofs.layouts.later_fold.Goals as goal
 
 pub overflow_sub-folds : goal.overflow_sub-folds

@@ -1,5 +1,4 @@
 use mathlib.Core.Path.{◌∙◌}
-use borrow.Author.Rules.{rules}
 use Rattle.row_checks.proofs.layouts.later_start.Goals as goal
 
 pub begins_past-requires : goal.begins_past-requires

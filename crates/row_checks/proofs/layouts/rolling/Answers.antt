@@ -1,7 +1,6 @@
 use mathlib.Core.Path.{◌∙◌}
 use mathlib.Core.List.{[], ◌∷◌}
 use Prim.Native.Nat.{◌+◌, ◌*◌}
-use borrow.Author.Rules.{rules}
 use lib.ListN.{length}
 use Rattle.paper.specs.Checks.{zero_size, nothing_to_test, no_such}
 use Rattle.paper.proofs.ChecksMeaning.{clear_each}

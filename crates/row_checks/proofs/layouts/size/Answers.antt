@@ -1,6 +1,5 @@
 use mathlib.Core.Path.{◌∙◌}
 use mathlib.Core.List.{[], ◌∷◌}
-use borrow.Author.Rules.{rules}
 use lib.ListN.{length}
 use Rattle.paper.specs.Checks.{lengths_differ, no_rows, too_many_rows}
 use Rattle.checks.specs.declared.checked.Checked.{Checked}

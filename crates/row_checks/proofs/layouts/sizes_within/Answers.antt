@@ -1,6 +1,5 @@
 use mathlib.Core.Path.{◌∙◌}
 use mathlib.Core.List.{[], ◌∷◌}
-use borrow.Author.Rules.{rules}
 use Rattle.paper.specs.Checks.{zero_size, nothing_to_test}
 use Rattle.checks.proofs.ChainLaws.{then_append}
 use Rattle.row_checks.proofs.layouts.sizes_within.Goals as goal

@@ -1,6 +1,5 @@
 use mathlib.Core.Path.{◌∙◌}
 use mathlib.Core.List.{[], ◌∷◌}
-use borrow.Author.Rules.{rules}
 use lib.ListN.{length}
 use Rattle.paper.specs.Spans.{table}
 use Rattle.paper.specs.Checks.{bad_span, wrong_length}

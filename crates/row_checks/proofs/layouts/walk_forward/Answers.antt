@@ -1,7 +1,6 @@
 use mathlib.Core.Path.{◌∙◌}
 use mathlib.Core.List.{[], ◌∷◌}
 use Prim.Native.Nat.{◌-◌}
-use borrow.Author.Rules.{rules}
 use Rattle.paper.specs.Checks.{table_checks, bad_minimum, no_such}
 use Rattle.paper.proofs.ChecksMeaning.{clear_each}
 use Rattle.paper.proofs.RefusalsMeaning.{bad_minimum_passes}

@@ -1,5 +1,4 @@
 -- The place is one of the table, and what stands there is C(n,k): both are laws of TableLaws. Past the row there is no set.
-use borrow.Author.Rules.{rules}
 use native.Mathlib.Omega.{arith}
 use mathlib.Core.Path.{sym}
 use Rattle.paper.proofs.Listing.{choose_past}

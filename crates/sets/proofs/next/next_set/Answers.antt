@@ -1,11 +1,10 @@
-use borrow.Author.Rules.{rules}
 use mathlib.Core.Path.{◌≡◌, sym}
 use Prim.Native.Nat.{ℕ, ◌+◌, ◌-◌, ◌≤◌, ◌<◌}
 use native.Mathlib.Omega.{arith}
 use lib.ListN.{length, get_or, take}
 use lib.Seq.{length-take-le}
 use Rattle.paper.specs.declared.numbers.FoldSet.{FoldSet}
-use Rattle.std.proofs.Common.{Bool, true}
+use Rattle.std.proofs.Common.{true}
 use Rattle.paper.specs.Handed.{list_of}
 use Rattle.paper.specs.Sets.{is_split}
 use Rattle.sets.specs.Work.{Turn}

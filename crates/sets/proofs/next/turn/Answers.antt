@@ -1,9 +1,6 @@
-use borrow.Author.Rules.{rules}
 use mathlib.Core.Path.{◌≡◌}
-use Prim.Native.Nat.{◌≤◌}
 use native.Mathlib.Omega.{arith}
 use Rattle.paper.specs.Handed.{list_of}
-use Rattle.sets.specs.Work.{Highest}
 use Rattle.sets.proofs.NextLaws.{split_long, highest_start, highest_more, fold_before}
 use Rattle.sets.proofs.next.turn.Goals as goal
 

@@ -1,9 +1,7 @@
-use borrow.Author.Rules.{rules}
 use mathlib.Core.Path.{◌≡◌}
 use mathlib.Core.List.{◌++◌}
-use Prim.Native.Nat.{◌-◌, ◌≤◌}
 use native.Mathlib.Omega.{arith}
-use Rattle.paper.specs.Handed.{handed, list_of}
+use Rattle.paper.specs.Handed.{list_of}
 use Rattle.sets.specs.Work.{up}
 use Rattle.sets.proofs.HandedLaws.{handed_tidy}
 use Rattle.sets.proofs.NextLaws.{run_start, run_more, run_count}

@@ -1,7 +1,6 @@
-use borrow.Author.Rules.{rules}
 use native.Mathlib.Omega.{arith}
 use Rattle.sets.proofs.NumberingLaws.{tail_end, place_fits, tail_some, tail_first, tail_firsts, tail_second, tail_seconds}
-use Prim.Native.Nat.{ℕ, ◌-◌, ◌<◌}
+use Prim.Native.Nat.{◌-◌}
 use Rattle.sets.proofs.numbering.+number_from.Goals as goal
 
 pub returns-then-at-k : goal.returns-then-at-k

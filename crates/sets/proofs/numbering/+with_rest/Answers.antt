@@ -1,7 +1,6 @@
-use borrow.Author.Rules.{rules}
 use native.Mathlib.Omega.{arith}
 use Rattle.sets.proofs.NumberingLaws.{rest_some, rest_end, rest_first, rest_firsts, rest_second, rest_seconds}
-use Prim.Native.Nat.{ℕ, ◌-◌, ◌<◌}
+use Prim.Native.Nat.{◌-◌}
 use Rattle.sets.proofs.numbering.+with_rest.Goals as goal
 
 pub returns-then-k-eq0 : goal.returns-then-k-eq0

@@ -1,4 +1,3 @@
-use borrow.Author.Rules.{rules}
 use Rattle.paper.specs.Handed.{list_of}
 use Rattle.sets.proofs.HandedLaws.{with_fold}
 use Rattle.sets.proofs.numbering.with_fold.Goals as goal

@@ -1,7 +1,6 @@
-use borrow.Author.Rules.{rules}
 use native.Mathlib.Omega.{arith}
 use Rattle.sets.proofs.PathLaws.{ahead_some, ahead_here, ahead_first, ahead_firsts, ahead_second, ahead_seconds, ahead_fits}
-use Prim.Native.Nat.{ℕ, ◌-◌, ◌<◌}
+use Prim.Native.Nat.{◌-◌}
 use Rattle.sets.proofs.paths.+split_from.Goals as goal
 
 pub returns-then-first-g : goal.returns-then-first-g

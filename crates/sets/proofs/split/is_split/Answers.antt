@@ -1,6 +1,5 @@
-use borrow.Author.Rules.{rules}
 use mathlib.Core.Path.{◌≡◌}
-use lib.ListN.{length, length-map}
+use lib.ListN.{length}
 use Rattle.sets.proofs.SplitLaws.{set_rises, set_other}
 use Rattle.sets.proofs.split.is_split.Goals as goal
 use Rattle.sets.proofs.split.is_split.Goals.{Start}

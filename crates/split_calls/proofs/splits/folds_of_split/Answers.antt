@@ -1,4 +1,3 @@
-use borrow.Author.Rules.{rules}
 use mathlib.Core.Path.{sym, ◌∙◌}
 use Rattle.paper.specs.Checks.{split_checks}
 use Rattle.checks.specs.declared.checked.Checked.{Checked}

@@ -1,4 +1,3 @@
-use borrow.Author.Rules.{rules}
 use mathlib.Core.Path.{sym, ap, ◌∙◌}
 use Rattle.paper.specs.Refusals.{done}
 use Rattle.paper.specs.Checks.{set_checks}

@@ -1,4 +1,3 @@
-use borrow.Author.Rules.{rules}
 use mathlib.Core.Path.{refl, sym, ◌∙◌}
 use Rattle.paper.specs.Paths.{path_of}
 use Rattle.paper.specs.Checks.{whole_path_checks}

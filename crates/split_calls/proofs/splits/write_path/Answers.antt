@@ -1,9 +1,6 @@
-use borrow.Author.Rules.{rules}
-use mathlib.Core.Path.{◌≡◌}
-use Prim.Native.Nat.{◌-◌, ◌≤◌, ◌<◌}
+use Prim.Native.Nat.{◌<◌}
 use native.Mathlib.Omega.{arith}
-use lib.ListN.{length, take, length-set}
-use Rattle.lists.specs.Base.{tab}
+use lib.ListN.{length, length-set}
 use Rattle.lists.specs.TabLaws.{tab_none, tab_more, tab_all}
 use Rattle.paper.specs.Paths.{split_on_path}
 use Rattle.split_calls.proofs.splits.write_path.Goals as goal
@@ -27,7 +24,7 @@ loop-g-preserved c =
     )
 
 pub shape_of-out : goal.shape_of-out
-shape_of-out c =  omega arith
+shape_of-out c = omega arith
 
 pub returns : goal.returns
 returns c =

@@ -1,10 +1,7 @@
-use borrow.Author.Rules.{rules}
 use mathlib.Core.Path.{◌≡◌}
-use Prim.Native.Nat.{◌-◌, ◌≤◌, ◌<◌}
-use native.Mathlib.Omega.{arith}
-use lib.ListN.{length, take, length-set}
+use Prim.Native.Nat.{◌-◌, ◌≤◌}
+use lib.ListN.{length, take}
 use Rattle.lists.specs.Base.{tab}
-use Rattle.lists.specs.TabLaws.{tab_none, tab_more, tab_all}
 use Rattle.paper.specs.Paths.{split_on_path}
 use Rattle.split_calls.proofs.splits.write_path.Given as goal
 

@@ -1,4 +1,3 @@
-use borrow.Author.Rules.{rules}
 use Rattle.paper.specs.Checks.{checked}
 use Rattle.checks.proofs.checked.Checked.refuse_if.Goals as goal
 
