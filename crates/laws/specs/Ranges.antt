@@ -1,18 +1,18 @@
 -- Test rows as code holds them: a few ranges of rows, ascending, not empty, which may touch. Range j has the rows from F j
 -- up to G j. Ranges that touch make one block (01), so a block begins at a range that does not touch the one before it, and
--- ends where the last range ends that it runs into. All of that is in `any_blocks`, `past_on` and `past_ends`.
-use Rattle.std.specs.Prelude.{◌≡◌, refl, Bool, true, false, ◌&&◌, not, ℕ, zero, suc, ◌+◌, ◌-◌, ◌≤◌, ◌<◌, eqb}
+-- ends where the last range ends that it runs into. All of that is in `any_blocks` of proofs/Heads, `past_on` and `past_ends`.
+use Rattle.std.specs.Prelude.{◌≡◌, Bool, true, false, ◌&&◌, not, ℕ, zero, suc, ◌+◌, ◌-◌, ◌≤◌, ◌<◌, eqb}
 use Rattle.std.proofs.Common.{ap₂, add-one, arith, eqb-true}
 use Rattle.std.proofs.Math.Path.{fun_ext}
 use Rattle.std.proofs.Math.Decide.{dec_lt, le_ind}
-use Rattle.std.proofs.lemmas.Bool.{not-true, eqb-false}
+use Rattle.std.proofs.lemmas.Bool.{eqb-false}
 use Rattle.lists.specs.Base.{any, any_from}
 use Rattle.lists.specs.AnyLaws.{never, both, both_ways, any_here, any_some, any_none, any_ext, any_from-here, any_from_some}
 use Rattle.lists.specs.FirstLaws.{first_from_ge}
 use Rattle.paper.specs.Folds.{Rows, within}
 use Rattle.paper.specs.Blocks.{begins, past}
 use Rattle.paper.proofs.FoldsMeaning.{within_in, within_is, within_before, within-behind}
-use Rattle.paper.proofs.BlocksMeaning.{begins_test, begins-after, begins_is, past_is, past_le, past_test, past_stops}
+use Rattle.paper.proofs.BlocksMeaning.{begins_test, begins-after, past_is, past_le, past_test, past_stops}
 
 -- The rows of k ranges.
 abbrev pub ranged : (ℕ → ℕ) → (ℕ → ℕ) → ℕ → Rows
@@ -53,11 +53,6 @@ ranges_ext w x y =
       fits = λ j l. rw (y j l) (w.fits j l);
     }
 
--- Whether a range begins a block, as code asks it: the first does (`refl`), and each other one by this.
-pub heads_next : (F G : ℕ → ℕ) (j : ℕ) → 0 < j → heads F G j ≡ not (eqb (G (j - 1)) (F j))
-heads_next F G zero h = absurd (omega arith)
-heads_next F G (suc j) h = let z : suc j - 1 ≡ j = omega arith in rw (z, add-one)
-
 module _ {F G : ℕ → ℕ} {k n : ℕ} (w : Ranges F G k n) where
   -- A row of a range is tested, and a row that is tested lies in one.
   pub ranged_in : (j i : ℕ) → j < k → F j ≤ i → i < G j → ranged F G k i ≡ true
@@ -76,25 +71,25 @@ module _ {F G : ℕ → ℕ} {k n : ℕ} (w : Ranges F G k n) where
       (λ m g ih l. omega (arith, ih (omega arith), w.some m (omega arith), rw add-one at (w.rise m (rw add-one l))))
       j h
 
-  begins-le : (i j : ℕ) → i ≤ j → j < k → F i ≤ F j
+  pub begins-le : (i j : ℕ) → i ≤ j → j < k → F i ≤ F j
   begins-le i j g h = go (dec_lt i j)
     where
       go : Dec (i < j) → F i ≤ F j
       go (yes l) = omega (arith, ranges_order i j l h, w.some i (omega arith))
       go (no l) = let z : i ≡ j = omega arith in rw z (omega arith)
 
-  ends_le : (i j : ℕ) → i ≤ j → j < k → G i ≤ G j
+  pub ends_le : (i j : ℕ) → i ≤ j → j < k → G i ≤ G j
   ends_le i j g h = go (dec_lt i j)
     where
       go : Dec (i < j) → G i ≤ G j
       go (yes l) = omega (arith, ranges_order i j l h, w.some j h)
       go (no l) = let z : i ≡ j = omega arith in rw z (omega arith)
 
-  gap : (j : ℕ) → j + 1 < k → touches F G j ≡ false → G j < F (j + 1)
+  pub gap : (j : ℕ) → j + 1 < k → touches F G j ≡ false → G j < F (j + 1)
   gap j h e = omega (arith, w.rise j h, eqb-false (G j) (F (j + 1)) e)
 
   -- A row between two ranges is not tested: it lies behind the first j and before all others.
-  ranged_out :
+  pub ranged_out :
       (j i : ℕ) → ((m : ℕ) → m < j → m < k → G m ≤ i) → ((m : ℕ) → j ≤ m → m < k → i < F m) → ranged F G k i ≡ false
   ranged_out j i behind before = any_none _ k (λ m l. go m l (dec_lt m j))
     where
@@ -132,32 +127,7 @@ module _ {F G : ℕ → ℕ} {k n : ℕ} (w : Ranges F G k n) where
 
   -- ---- where a block begins
 
-  -- At the first row of a range that does not touch the one before it ..
-  pub begins_head : (j : ℕ) → j < k → begins (ranged F G k) (F j) ≡ heads F G j
-  begins_head j h = both_ways (head j h) (begin j h)
-    where
-      head : (j : ℕ) → j < k → begins (ranged F G k) (F j) ≡ true → heads F G j ≡ true
-      head zero h b = refl
-      head (suc j) h b = go (touches F G j) refl
-        where
-          go : (v : Bool) → touches F G j ≡ v → not (touches F G j) ≡ true
-          go false e = rw e
-          go true e =
-              let z : suc (G j - 1) ≡ F (suc j) = omega (arith, w.some j (omega arith), rw add-one at (eqb-true (G j) (F (j + 1)) e)) in
-              never (ranged_in j (G j - 1) (omega arith) (omega (arith, w.some j (omega arith))) (omega (arith, w.some j (omega arith))))
-              (begins-after n (ranged F G k) (G j - 1) (rw z b))
-
-      begin : (j : ℕ) → j < k → heads F G j ≡ true → begins (ranged F G k) (F j) ≡ true
-      begin j h e =
-          begins_is n (ranged F G k) (F j) (ranged_in j (F j) h (omega arith) (w.some j h))
-          (λ c z. ranged_out j c (λ m x y. before j h e m x c z) (λ m x y. omega (arith, begins-le j m x y)))
-        where
-          before : (j : ℕ) → j < k → heads F G j ≡ true → (m : ℕ) → m < j → (c : ℕ) → suc c ≡ F j → G m ≤ c
-          before zero h e m x c z = absurd (omega arith)
-          before (suc j) h e m x c z =
-              omega (arith, ends_le m j (omega arith) (omega arith), rw add-one at (gap j (rw add-one h) (not-true (touches F G j) e)))
-
-  -- .. and nowhere else.
+  -- Only at the first row of a range. At which of them: proofs/Heads.
   pub begins_range : (b : ℕ) → begins (ranged F G k) b ≡ true → (j : ℕ) × (j < k) × (F j ≡ b)
   begins_range b h =
       let r = ranged_some b (begins_test n (ranged F G k) b h) in
@@ -169,26 +139,7 @@ module _ {F G : ℕ → ℕ} {k n : ℕ} (w : Ranges F G k n) where
       at (suc b) h j l x y (yes g) =
           never (ranged_in j b l (omega arith) (omega arith)) (begins-after n (ranged F G k) b h)
 
-  -- So "some block" is "some range that begins one", whatever is asked of it.
-  pub any_blocks : (P : ℕ → Bool) → any (λ b. begins (ranged F G k) b && P b) n ≡ any (λ j. heads F G j && P (F j)) k
-  any_blocks P = both_ways to from
-    where
-      to : any (λ b. begins (ranged F G k) b && P b) n ≡ true → any (λ j. heads F G j && P (F j)) k ≡ true
-      to h =
-          let m = any_some (λ b. begins (ranged F G k) b && P b) n h in
-          let e = both {a = begins (ranged F G k) m.0} m.2 in
-          let r = begins_range m.0 e.0 in
-          any_here (λ j. heads F G j && P (F j)) k r.0 r.1
-          (rw (← begins_head r.0 r.1, r.2, e.0, e.1))
-
-      from : any (λ j. heads F G j && P (F j)) k ≡ true → any (λ b. begins (ranged F G k) b && P b) n ≡ true
-      from h =
-          let m = any_some (λ j. heads F G j && P (F j)) k h in
-          let e = both {a = heads F G m.0} m.2 in
-          any_here (λ b. begins (ranged F G k) b && P b) n (F m.0) (omega (arith, w.some m.0 m.1, w.fits m.0 m.1))
-          (rw (begins_head m.0 m.1, e.0, e.1))
-
-  -- And "some test row" is "some row of some range".
+  -- "Some test row" is "some row of some range".
   pub any-ranged : (P : ℕ → Bool) → any (λ i. ranged F G k i && P i) n ≡ any (λ j. any_from P (F j) (G j)) k
   any-ranged P = both_ways to from
     where

@@ -15,7 +15,8 @@ use Rattle.paper.specs.Blocks.{latest}
 use Rattle.paper.specs.Embargo.{embargo_from}
 use Rattle.paper.specs.Marks.{purged, mark, mark_of}
 use Rattle.laws.specs.Ranges.{ranged, Ranges, touches, heads, past_range, past_ends}
-use Rattle.laws.specs.Worker.{covers, ranged_split, worker_window, worker_hulls, worker_mark}
+use Rattle.laws.specs.Worker.{covers, ranged_split}
+use Rattle.laws.proofs.WorkerLaws.{worker_window, worker_hulls, worker_mark}
 use Rattle.blocks.specs.declared.Rule.{Rule}
 use Rattle.blocks.specs.declared.Rule.TheVariants.{Window, Pair}
 use Rattle.blocks.specs.Held.{rule_of, Blocks}
