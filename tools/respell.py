@@ -1,7 +1,7 @@
 #!/usr/bin/env python3
 """Respells the names that this repository gives to its own definitions and lemmas, by the table names.tsv beside this file.
 
-usage: python3 tools/respell.py      at the top, once, right after /opt/rattle/port/port.py
+usage: python3 tools/respell.py      at the top, once, right after port.py of the kit
 
 A row of the table is an old name, a tab, and the new one: words in snake case, types as they are, a dash only between
 two names of definitions. Turned are the code of each .antt file, the clauses of each .rt file, the text of each
