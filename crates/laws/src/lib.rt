@@ -1,2 +1,2 @@
-// No code: the theorems over the definitions of `paper` stand in specs/.
+// No code: the theorems over the definitions of `paper` stand in specs/ and proofs/.
 #![tactic(auto)]

@@ -38,7 +38,7 @@ pub fn walk_forward(
     }
 }
 
-// Marks a split of the rolling layout: up to `size` rows from a + typeof.s.step on are tested. The pair rule.
+// Marks a split of the rolling layout: up to `size` rows from a + s·step on are tested. The pair rule.
 pub fn rolling(
     starts: &[i64],
     ends: &[i64],
