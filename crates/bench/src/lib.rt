@@ -1,6 +1,5 @@
 // The split bench: what a program imports. Every call takes any arguments, and answers with its result or with one of 01's
-// refusals; none asks anything of its caller. A program names `bench` in crates.txt, with `paper` and the crates of the calls
-// that it uses: `split_calls`, `mark_calls`, `list_calls`.
+// refusals; none asks anything of its caller. A program's line in crates.txt names `bench` alone.
 #![tactic(auto)]
 
 // The value types.

@@ -1,5 +1,5 @@
 // What the calls answer: the result, or the refusal. Where a result holds an array, the answer is a struct with the
-// outcome beside it, since an enum can hold no array.
+// outcome beside it: the language had no enum that holds an array when this was written.
 use crate::numbers::{FoldSet, SplitNumber};
 use crate::refusal::Refusal;
 
