@@ -4,8 +4,7 @@
 
 // The value types.
 pub use paper::{
-    Counted, Counts, FoldNumber, FoldSet, Marked, Next, NextSet, PathNumber, Placed, Refusal,
-    Settings, Span, SplitFolds, SplitNumber, Written,
+    Counts, FoldNumber, FoldSet, PathNumber, Refusal, Rolling, Rule, Settings, Span, SplitNumber,
 };
 
 // Split and path numbers.
@@ -15,7 +14,7 @@ pub use split_calls::{
 };
 
 // Marks of one split.
-pub use mark_calls::{cpcv_pair, cpcv_window, kfold_pair, kfold_window, rolling, walk_forward};
+pub use mark_calls::{cpcv, kfold, rolling, walk_forward};
 
 // Plain folds and train times.
 pub use list_calls::{ml_get_train_times, naive_kfold};

@@ -6,14 +6,16 @@ use Prim.Native.Nat.{ℕ, zero, suc, ◌+◌, ◌-◌, ◌≤◌, ◌<◌}
 use native.Mathlib.Omega.{arith}
 use native.Mathlib.Decide.{dec_lt}
 use lib.Dec.{eqb, ltb}
-use lib.ListN.{length, set}
-use lib.Seq.{get_or-set_same, get_or-set_other}
+use lib.ListN.{length, set, take}
+use lib.Seq.{get_or-set_same, get_or-set_other, get_or-take}
 use borrow.Author.Tests.{eqb-true, eqb-false, lt-ltb, le-ltb}
+use Rattle.std.proofs.lemmas.List.{length-take-le}
 use Rattle.lists.specs.AnyLaws.{any_more, any_zero, any_ext}
 use Rattle.paper.specs.Folds.{within}
 use Rattle.paper.proofs.FoldsMeaning.{within_in, within_before, within-behind}
 use Rattle.laws.specs.Ranges.{ranged, Ranges}
-use Rattle.blocks.specs.Held.{nth, Blocks}
+use Rattle.folds.specs.declared.RowRange.{RowRange}
+use Rattle.blocks.specs.Held.{firsts, pasts, Blocks}
 use Rattle.blocks.specs.Joined.{Joined, Joins, place_of}
 
 -- Two ranges that touch are one.
@@ -35,9 +37,13 @@ pub record Filled (old new : ℕ → ℕ) (at v : ℕ) : Type 0 where
   pub below : (t : ℕ) → t < at → new t ≡ old t
   pub here : new at ≡ v
 
-pub filled_set : (l : List ℕ) (at v : ℕ) → at < length l → Filled (nth l) (nth (set l at v)) at v
-filled_set l at v h =
-    record { below = λ t k. get_or-set_other l at t v 0 (λ e. omega arith); here = get_or-set_same l at v 0 h }
+pub filled_firsts : (l : List RowRange) (at : ℕ) (v : RowRange) → at < length l → Filled (firsts l) (firsts (set l at v)) at v.first
+filled_firsts l at v h =
+    record { below = λ t k. ap (λ r. r.first) (get_or-set_other l at t v _ (λ e. omega arith)); here = ap (λ r. r.first) (get_or-set_same l at v _ h) }
+
+pub filled_pasts : (l : List RowRange) (at : ℕ) (v : RowRange) → at < length l → Filled (pasts l) (pasts (set l at v)) at v.past
+filled_pasts l at v h =
+    record { below = λ t k. ap (λ r. r.past) (get_or-set_other l at t v _ (λ e. omega arith)); here = ap (λ r. r.past) (get_or-set_same l at v _ h) }
 
 module _ {B E B' E' : ℕ → ℕ} {at b e : ℕ} (p : Filled B B' at b) (q : Filled E E' at e) where
   -- Behind the blocks below `at`, with a row between, a block from b up to e.
@@ -67,6 +73,44 @@ module _ {B E B' E' : ℕ → ℕ} {at b e : ℕ} (p : Filled B B' at b) (q : Fi
       any_more (λ j. within (B' j) (E' j) i) at
       ∙ ap₂ (λ u v. u || v) (any_ext _ _ at (λ j l. ap₂ (λ u v. within u v i) (p.below j l) (q.below j l)))
       (ap₂ (λ u v. within u v i) p.here q.here)
+
+-- ---- a list cut behind the blocks
+
+joins_ext :
+    {F G B E B' E' : ℕ → ℕ} {k m : ℕ} → ((j : ℕ) → j < m → B' j ≡ B j) → ((j : ℕ) → j < m → E' j ≡ E j) → Joins F G k B E m →
+    Joins F G k B' E' m
+joins_ext {m = m} x y w =
+    record {
+      few = w.few;
+      joined = λ n r.
+          let old = w.joined n r in
+          let b = old.blocks in
+          record {
+            blocks =
+                record {
+                  some = λ j l. rw (x j l, y j l) (b.some j l);
+                  gap = λ j l. rw (x (j + 1) l, y j (omega arith)) (b.gap j l);
+                  fits = λ j l. rw (y j l) (b.fits j l);
+                };
+            same = λ i. old.same i ∙ sym (any_ext _ _ m (λ j l. ap₂ (λ u v. within u v i) (x j l) (y j l)));
+            last = λ j l. let t = old.last j l in (t.0, y (m - 1) (omega (arith, t.0)) ∙ t.1);
+          };
+    }
+
+module _ (l : List RowRange) (m : ℕ) (h : m ≤ length l) where
+  pub joins_cut :
+      {F G : ℕ → ℕ} {k : ℕ} → Joins F G k (firsts l) (pasts l) m →
+      Joins F G k (firsts (take m l)) (pasts (take m l)) (length (take m l))
+  joins_cut w =
+      rw (length-take-le m l h)
+      (joins_ext (λ j k. ap (λ r. r.first) (get_or-take m l j _ k)) (λ j k. ap (λ r. r.past) (get_or-take m l j _ k)) w)
+
+  pub place_cut : (b : ℕ) → place_of (pasts (take m l)) (length (take m l)) b ≡ place_of (pasts l) m b
+  place_cut b = rw (length-take-le m l h) (go m (omega arith))
+    where
+      go : (k : ℕ) → k ≤ m → place_of (pasts (take m l)) k b ≡ place_of (pasts l) k b
+      go zero k = refl
+      go (suc k) g = ap (λ r. cond (eqb r.past b) k (suc k)) (get_or-take m l k _ (omega arith))
 
 -- ---- none yet
 

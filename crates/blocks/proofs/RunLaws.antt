@@ -1,21 +1,22 @@
--- A running latest or earliest time, which code keeps as bits: its start, and one time more.
-use mathlib.Core.Path.{◌≡◌, sym, ap₂, ◌∙◌}
-use Prim.Native.Nat.{ℕ, ◌+◌, ◌<◌, ◌^◌}
-use lib.IntN.{ℤ}
-use lib.Signed.{mag}
-use mir.Syntax.{w64}
-use mir.Val.{to_z, of_z}
-use Rattle.lists.specs.Base.{over}
-use Rattle.lists.specs.OverLaws.{over_one, over_more}
-use Rattle.lists.specs.SignedLaws.{read}
+-- A value folded with the rest of a list is the running join of the list's places.
+use mathlib.Core.Path.{◌≡◌, refl, ap, ap₂, ◌∙◌}
+use mathlib.Core.List.{List}
+use Prim.Native.Nat.{ℕ, zero, suc, ◌+◌, ◌-◌, ◌≤◌, ◌<◌}
+use native.Mathlib.Omega.{arith}
+use Rattle.std.proofs.Common.{length, get_or, take, drop, length-drop, fold, take-suc}
+use Rattle.std.proofs.lemmas.List.{get_or-drop}
+use Rattle.std.proofs.lemmas.List.Sums.{fold_push}
+use Rattle.lists.specs.Base.{join_from, over}
 
-module _ (op : ℤ → ℤ → ℤ) (f : ℕ → ℤ) (b : ℕ) where
-  pub run_one : mag (f b) < 2 ^ 63 → to_z w64 (of_z w64 (f b)) ≡ over op f b (b + 1)
-  run_one h = read (f b) h ∙ sym (over_one op f b)
+module _ {A : Type 0} (op : A → A → A) (d : A) (l : List A) (b : ℕ) where
+  joined : (m : ℕ) → b + m < length l → fold op (get_or l b d) (take m (drop (b + 1) l)) ≡ join_from op (λ i. get_or l i d) b m
+  unfolding join_from
+  joined zero h = refl
+  joined (suc m) h =
+      let more : m < length (drop (b + 1) l) = omega (arith, length-drop (b + 1) l) in
+      let here : b + 1 + m ≡ b + suc m = omega arith in
+      rw (take-suc (drop (b + 1) l) m d more, fold_push op)
+      (ap₂ op (joined m (omega arith)) (get_or-drop (b + 1) l m d ∙ ap (λ i. get_or l i d) here))
 
-  -- r is what the code joins of the time so far, m, and of f i.
-  pub run_more :
-      (i : ℕ) (m r : ℤ) → b < i → mag (f i) < 2 ^ 63 → mag r < 2 ^ 63 → m ≡ over op f b i →
-      r ≡ op m (to_z w64 (of_z w64 (f i))) → to_z w64 (of_z w64 r) ≡ over op f b (i + 1)
-  run_more i m r l h k e j =
-      read r k ∙ j ∙ ap₂ op e (read (f i) h) ∙ sym (over_more op f b i l)
+  pub folded : (e : ℕ) → b < e → e ≤ length l → fold op (get_or l b d) (take (e - (b + 1)) (drop (b + 1) l)) ≡ over op (λ i. get_or l i d) b e
+  folded e h k = let z : e - (b + 1) ≡ e - b - 1 = omega arith in rw z (joined (e - b - 1) (omega arith))

@@ -1,19 +1,19 @@
 -- A chain of checks cut in two, and what was found at its end: for the call that goes on, and for the one that refuses.
-use mathlib.Core.Path.{◌≡◌, refl, sym}
+use mathlib.Core.Path.{◌≡◌, refl, sym, ap, ◌∙◌}
 use mathlib.Core.Bool.{Bool, true, false, cond, not, ◌&&◌}
 use mathlib.Core.List.{List, [], ◌∷◌, ◌++◌, append-nil}
-use Prim.{tt}
 use Prim.Native.Nat.{ℕ}
 use native.Mathlib.Omega.{arith}
 use lib.Dec.{eqb}
 use borrow.Author.Tests.{not-true}
+use Rattle.std.specs.Prelude.{Result, Err}
+use Rattle.std.specs.Result.{IsErrAnd}
+use Rattle.std.proofs.lemmas.Result.{err_from_is_err_and}
 use Rattle.lists.specs.AnyLaws.{both, never}
 use Rattle.paper.specs.declared.refusal.Refusal.{Refusal}
 use Rattle.paper.specs.Refusals.{Outcome, Carried, done, refused, said_refusal}
 use Rattle.paper.specs.Checks.{Check, checked, lent}
 use Rattle.paper.proofs.ChecksMeaning.{clear, checked-clear}
-use Rattle.checks.specs.declared.checked.Checked.{Checked}
-use Rattle.checks.specs.Said.{said_checked, ◌then◌}
 
 -- A result is no refusal.
 apart : {A X : Type 0} {a : A} {n : ℕ} {c : Carried} → ◌≡◌ {A = Outcome A} (done a) (refused n c) → X
@@ -56,28 +56,33 @@ append_refused {A} {B} (c ∷ xs) ys a b {n} {q} h = go c.due h (append_refused 
     go true h more = cc
     go false h more = more h
 
--- ---- what was found
+-- ---- what a check found
 
--- The groups of a call, one after another, are its chain.
-pub then_append : (found r : Checked) (xs ys : List Check) → said_checked r ≡ (found then xs) → (r then ys) ≡ (found then xs ++ ys)
-then_append Checked.Fine Checked.Fine xs ys h = sym (append-clear xs ys tt (done_clear xs tt tt (sym h)))
-then_append Checked.Fine (Checked.Bad r) xs ys h = sym (append_refused xs ys tt tt (sym h))
-then_append (Checked.Bad q) Checked.Fine xs ys h = apart h
-then_append (Checked.Bad q) (Checked.Bad r) xs ys h = h
+-- The exit of a `?`: the answer is the refusal that was found.
+pub exit_is : {A : Type 0} (r : Result A Refusal) (q : Refusal) → IsErrAnd r (λ x. x ≡ q) → r ≡ Err q
+exit_is r q h = let p = err_from_is_err_and r h in p.1 ∙ ap Err p.2
 
--- Nothing was found: nothing had been found, and none of the chain is due.
-pub then_fine : (found r : Checked) (cs : List Check) → said_checked r ≡ (found then cs) → r ≡ Checked.Fine → clear cs ≡ true
-then_fine Checked.Fine r cs h e = done_clear cs tt tt (sym (rw e at h))
-then_fine (Checked.Bad q) r cs h e = apart (rw e at h)
+-- A refusal of the first part is that of the whole chain, whatever stands behind it ..
+pub refused_first : {A B : Type 0} (q : Refusal) (xs ys : List Check) (a : A) (b : B)
+    → said_refusal q ≡ checked xs a → said_refusal q ≡ checked (xs ++ ys) b
+refused_first q xs ys a b h = sym (append_refused xs ys a b (sym h))
+
+-- .. and where the first part found none, what the second finds is what the chain finds.
+pub passed_first : {A B : Type 0} {o : Outcome B} (xs ys : List Check) (a : A) (b : B)
+    → done a ≡ checked xs a → o ≡ checked ys b → o ≡ checked (xs ++ ys) b
+passed_first xs ys a b h more = more ∙ sym (append-clear xs ys b (done_clear xs a a (sym h)))
+
+-- None was due.
+pub passed_clear : {A : Type 0} (cs : List Check) (a : A) → done a ≡ checked cs a → clear cs ≡ true
+passed_clear cs a h = done_clear cs a a (sym h)
 
 -- What the call then says: its result ..
-pub fine_gives : {A : Type 0} {r : Checked} (cs : List Check) → said_checked r ≡ checked cs tt → r ≡ Checked.Fine → (a : A) → checked cs a ≡ done a
-fine_gives cs h e a = checked-clear cs a (done_clear cs tt tt (sym (rw e at h)))
+pub passed_gives : {A B : Type 0} (cs : List Check) (a : A) (b : B) → done a ≡ checked cs a → done b ≡ checked cs b
+passed_gives cs a b h = sym (checked-clear cs b (passed_clear cs a h))
 
 -- .. or the refusal.
-pub bad_gives : {A : Type 0} {r : Checked} {q : Refusal} (cs : List Check) → said_checked r ≡ checked cs tt → r ≡ Checked.Bad q
-    → (a : A) → checked cs a ≡ said_refusal q
-bad_gives cs h e a = rw append-nil at (append_refused cs [] tt a (sym (rw e at h)))
+pub refused_gives : {A B : Type 0} (q : Refusal) (cs : List Check) (a : A) (b : B) → said_refusal q ≡ checked cs a → said_refusal q ≡ checked cs b
+refused_gives q cs a b h = rw append-nil at (refused_first q cs [] a b h)
 
 -- ---- lent lists
 
@@ -101,11 +106,10 @@ lent_kept (c ∷ cs) a old new t {n} {q} e =
     go false e other more = more e
 
 -- Then a refusal leaves the lent list as it was ..
-pub lent_bad : {A B : Type 0} {r : Checked} {q : Refusal} (cs : List Check) → without17 cs ≡ true → said_checked r ≡ checked cs tt
-    → r ≡ Checked.Bad q → (a : A) (old new : List B) → old ≡ lent (checked cs a) old new
-lent_bad cs t h e a old new = sym (lent_kept cs a old new t (bad_gives cs h e a))
+pub lent_refused : {A B X : Type 0} (q : Refusal) (cs : List Check) → without17 cs ≡ true → (x : X) → said_refusal q ≡ checked cs x
+    → (a : A) (old new : List B) → old ≡ lent (checked cs a) old new
+lent_refused q cs t x h a old new = sym (lent_kept cs a old new t (sym (refused_gives q cs x a h)))
 
 -- .. and a result leaves the new one.
-pub lent_fine : {A B : Type 0} {r : Checked} (cs : List Check) → said_checked r ≡ checked cs tt → r ≡ Checked.Fine
-    → (a : A) (old new : List B) → new ≡ lent (checked cs a) old new
-lent_fine cs h e a old new = rw (fine_gives cs h e a)
+pub lent_passed : {A B X : Type 0} (cs : List Check) (x : X) → done x ≡ checked cs x → (a : A) (old new : List B) → new ≡ lent (checked cs a) old new
+lent_passed cs x h a old new = rw (← passed_gives cs x a h)

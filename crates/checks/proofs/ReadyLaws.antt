@@ -5,8 +5,17 @@ use mathlib.Core.List.{List, []}
 use Prim.Native.Nat.{ℕ, ◌≤◌, ◌<◌}
 use lib.Dec.{eqb, leb}
 use Rattle.paper.specs.Sets.{choose, is_split}
+use Prim.{tt}
+use mathlib.Core.List.{◌∷◌}
+use Rattle.std.specs.Prelude.{Option, Some, None, MatchOption}
+use Rattle.std.specs.Option.{ok_or}
+use Rattle.paper.specs.declared.numbers.FoldSet.{FoldSet}
+use Rattle.paper.specs.declared.refusal.Refusal.TheVariants.{NoSuchNumber}
+use Rattle.paper.specs.Handed.{list_of}
+use Rattle.sets.specs.declared.choice.Split.{Split}
+use Rattle.checks.specs.Said.{said_checked}
 use Rattle.paper.specs.Paths.{paths}
-use Rattle.paper.specs.Checks.{combination_checks, numbers_checks, split_checks, set_checks, path_checks, whole_path_checks}
+use Rattle.paper.specs.Checks.{checked, no_split, combination_checks, numbers_checks, split_checks, set_checks, path_checks, whole_path_checks}
 use Rattle.paper.proofs.ChecksMeaning.{clear, clear_each}
 use Rattle.paper.proofs.RefusalsMeaning.{bad_test_folds_passes}
 use Rattle.paper.proofs.Domains.{SetsIn, sets_in, numbers_in, split_in, set_in, path_in, whole_path_in}
@@ -41,3 +50,12 @@ module _ (n k : ℕ) where
 
   pub whole_ready : (p long : ℕ) → clear (whole_path_checks n k p long) ≡ true → Ready n k × (p < paths n k) × (long ≡ n)
   whole_ready p long h = let t = whole_path_in n k p long (clear_each (whole_path_checks n k p long) h) in (ready t.2, t.3, t.1)
+
+-- A fold set as the split that it is, or 13.
+pub split_or :
+    (n k : ℕ) (set : FoldSet) (o : Option Split) →
+    MatchOption o (is_split n k (list_of set) ≡ false) (λ s. (s.choice.n ≡ n) × (s.choice.k ≡ k) × (s.set ≡ set)) →
+    said_checked (ok_or o NoSuchNumber) ≡ checked (no_split n k (list_of set) ∷ []) tt
+unfolding checked
+split_or n k set None h = rw h
+split_or n k set (Some s) h = let t : is_split n k (list_of set) ≡ true = rw (h.0, h.1, h.2) at s.is in rw t

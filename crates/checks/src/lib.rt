@@ -1,7 +1,8 @@
-// The checks of the calls, in 01's order: what was found so far goes from group to group (01, "Refusal numbers").
+// The checks of the calls, in 01's order (01, "Refusal numbers"): each answers nothing, or what it has made sure of, or the
+// refusal, which `?` hands on past all later checks.
 #![tactic(auto)]
 
-pub mod checked;
 pub mod numbers;
+pub mod refuse;
 
-pub use checked::Checked;
+pub use refuse::refuse_if;

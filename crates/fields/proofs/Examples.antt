@@ -1,7 +1,7 @@
 -- Worked examples of fields and lines, by computation (01, "Report program"). Bytes are written as numbers: 9 is the tab, 10 the LF.
 use mathlib.Core.Path.{◌≡◌, refl}
 use mathlib.Core.List.{[], ◌∷◌}
-use mathlib.Core.Option.{none, some}
+use Rattle.std.specs.Prelude.{None, Some}
 use Rattle.lists.specs.Base.{first_from}
 use Rattle.text.specs.Numbers.{digit_of, behind, decimal_of}
 use Rattle.fields.specs.Parts.{parts_of, ended, behind_last, find_from, fields_of, lines_of, rest_of, field_as}
@@ -19,8 +19,8 @@ parts = (refl, refl, refl, refl, refl, refl)
 
 -- The fields of `6 7` in turn: the second is the last, and behind it there is none.
 fields :
-    (field_as decimal_of (54 ∷ 9 ∷ 55 ∷ []) 0 ≡ some (record { value = 6; next = 2 }))
-    × (field_as decimal_of (54 ∷ 9 ∷ 55 ∷ []) 2 ≡ some (record { value = 7; next = 4 }))
-    × (field_as decimal_of (54 ∷ 9 ∷ 55 ∷ []) 4 ≡ none)
+    (field_as decimal_of (54 ∷ 9 ∷ 55 ∷ []) 0 ≡ Some (6, 2))
+    × (field_as decimal_of (54 ∷ 9 ∷ 55 ∷ []) 2 ≡ Some (7, 4))
+    × (field_as decimal_of (54 ∷ 9 ∷ 55 ∷ []) 4 ≡ None)
 unfolding field_as find_from first_from decimal_of behind digit_of
 fields = (refl, refl, refl)

@@ -1,7 +1,7 @@
 -- Where a search for a byte ends, and what a field is read as, by the ways that code takes.
 use mathlib.Core.Path.{◌≡◌}
 use mathlib.Core.List.{List}
-use mathlib.Core.Option.{Option, none, some}
+use Rattle.std.specs.Prelude.{Option, None, Some}
 use Prim.Native.Nat.{ℕ, ◌+◌, ◌-◌, ◌≤◌, ◌<◌}
 use native.Mathlib.Omega.{arith}
 use lib.Dec.{eqb}
@@ -20,16 +20,16 @@ find_le b s a h = omega (arith, first_from-le (λ i. eqb (get_or s i 0) b) a (le
 
 module _ {A : Type 0} (read : List ℕ → Option A) (s : List ℕ) (a : ℕ) where
   -- There is no field past the end.
-  pub field_none : length s < a → none ≡ field_as read s a
+  pub field_none : length s < a → None ≡ field_as read s a
   unfolding field_as
   field_none h = rw (lt-leb a (length s) h)
 
   -- The field ends at e.
   module _ (e : ℕ) (h : a ≤ length s) (q : e ≡ find_from tab_byte s a) where
-    pub field_is : (v : A) → some v ≡ read (part s a e) → some (record { value = v; next = e + 1 }) ≡ field_as read s a
+    pub field_is : (v : A) → Some v ≡ read (part s a e) → Some (v, e + 1) ≡ field_as read s a
     unfolding field_as
     field_is v r = rw (le-leb a (length s) h, ← q, ← r)
 
-    pub field_bad : none ≡ read (part s a e) → none ≡ field_as read s a
+    pub field_bad : None ≡ read (part s a e) → None ≡ field_as read s a
     unfolding field_as
     field_bad r = rw (le-leb a (length s) h, ← q, ← r)

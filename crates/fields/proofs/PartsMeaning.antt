@@ -3,7 +3,7 @@
 use mathlib.Core.Path.{◌≡◌, refl, sym, ap, ◌∙◌}
 use mathlib.Core.Bool.{Bool, true, false, cond}
 use mathlib.Core.List.{List, [], ◌∷◌, ◌++◌}
-use mathlib.Core.Option.{Option, none, some, map}
+use Rattle.std.specs.Prelude.{Option, None, Some, option_map}
 use Prim.Native.Nat.{ℕ, zero, suc, ◌+◌, ◌-◌, ◌≤◌, ◌<◌}
 use native.Mathlib.Numerals.{add-one}
 use native.Mathlib.Omega.{arith}
@@ -14,7 +14,7 @@ use lib.Seq.{drop-cons}
 use borrow.Author.Tests.{le-leb, lt-leb, eqb-true, eqb-false}
 use Rattle.lists.specs.Base.{first_from}
 use Rattle.lists.specs.FirstLaws.{first_from_ge}
-use Rattle.fields.specs.Parts.{tab_byte, lf_byte, on_first, parts_of, ended, behind_last, find_from, part, parts_from, lines_from, rest_from, first_as, Field, field_as}
+use Rattle.fields.specs.Parts.{tab_byte, lf_byte, on_first, parts_of, ended, behind_last, find_from, part, parts_from, lines_from, rest_from, first_as, field_as}
 
 -- The parts with the byte between them.
 unfoldable pub joined : ℕ → List (List ℕ) → List ℕ
@@ -114,30 +114,30 @@ module _ (b : ℕ) (s : List ℕ) where
 
 -- The field at a place is the first of those from there on, and the place that is handed on begins the others: a walk by places
 -- reads what a walk over the list of fields reads.
-abbrev onward : {A : Type 0} → List ℕ → Field A → A × List (List ℕ)
-onward s f = (f.value, parts_from tab_byte s f.next)
+abbrev onward : {A : Type 0} → List ℕ → A × ℕ → A × List (List ℕ)
+onward s f = (f.0, parts_from tab_byte s f.1)
 
 module _ {A : Type 0} (read : List ℕ → Option A) (s : List ℕ) (a : ℕ) where
-  field_walk : map (onward s) (field_as read s a) ≡ first_as read (parts_from tab_byte s a)
+  field_walk : option_map (onward s) (field_as read s a) ≡ first_as read (parts_from tab_byte s a)
   unfolding field_as
   field_walk = go (dec_le a (length s))
     where
       same : (o : Option A) (k : ℕ)
-          → map (onward s) (map (λ v. record { value = v; next = k }) o)
-          ≡ map (λ v. (v, parts_from tab_byte s k)) o
-      same none k = refl
-      same (some v) k = refl
+          → option_map (onward s) (option_map (λ v. (v, k)) o)
+          ≡ option_map (λ v. (v, parts_from tab_byte s k)) o
+      same None k = refl
+      same (Some v) k = refl
 
-      go : Dec (a ≤ length s) → map (onward s) (field_as read s a) ≡ first_as read (parts_from tab_byte s a)
+      go : Dec (a ≤ length s) → option_map (onward s) (field_as read s a) ≡ first_as read (parts_from tab_byte s a)
       go (yes h) =
           rw (parts_step tab_byte s a h, le-leb a (length s) h) (same (read (part s a (find_from tab_byte s a))) (find_from tab_byte s a + 1))
       go (no g) = rw (parts_none tab_byte s a (omega arith), lt-leb a (length s) (omega arith))
 
-  pub field_read : (v : A) (next : ℕ) → some (record { value = v; next = next }) ≡ field_as read s a → first_as read (parts_from tab_byte s a) ≡ some (v, parts_from tab_byte s next)
-  field_read v next e = sym field_walk ∙ sym (ap (map (onward s)) e)
+  pub field_read : (v : A) (next : ℕ) → Some (v, next) ≡ field_as read s a → first_as read (parts_from tab_byte s a) ≡ Some (v, parts_from tab_byte s next)
+  field_read v next e = sym field_walk ∙ sym (ap (option_map (onward s)) e)
 
-  pub field_refused : none ≡ field_as read s a → first_as read (parts_from tab_byte s a) ≡ none
-  field_refused e = sym field_walk ∙ sym (ap (map (onward s)) e)
+  pub field_refused : None ≡ field_as read s a → first_as read (parts_from tab_byte s a) ≡ None
+  field_refused e = sym field_walk ∙ sym (ap (option_map (onward s)) e)
 
 module _ (s : List ℕ) (a : ℕ) (h : a ≤ length s) where
   -- A line where an LF is found; else what is left is no line.

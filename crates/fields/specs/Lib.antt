@@ -1,3 +1,2 @@
 -- The parts of a text. Nothing here knows of splits.
-pub mod Answers
 pub mod Parts

@@ -1,7 +1,6 @@
 -- Fields parted by tabs, lines ended by LF (01, "Report program"): the parts of a text as lists of bytes, and the same
 -- parts as places in it.
-use Rattle.std.specs.Prelude.{◌≡◌, cond, List, [], ◌∷◌, ℕ, ◌+◌, ◌-◌, ◌≤◌, leb, eqb, length, get_or, take, drop}
-use Rattle.std.proofs.Math.Option.{Option, none, map}
+use Rattle.std.specs.Prelude.{◌≡◌, cond, List, [], ◌∷◌, ℕ, ◌+◌, ◌-◌, ◌≤◌, leb, eqb, length, get_or, take, drop, Option, None, option_map}
 use Rattle.lists.specs.Base.{first_from}
 
 abbrev pub tab_byte : ℕ
@@ -26,8 +25,8 @@ fields_of s = parts_of tab_byte s
 
 -- The first of some fields, read, with the others; none where there is no field, or it is not of the form.
 abbrev pub first_as : {A : Type 0} → (List ℕ → Option A) → List (List ℕ) → Option (A × List (List ℕ))
-first_as read [] = none
-first_as read (p ∷ ps) = map (λ v. (v, ps)) (read p)
+first_as read [] = None
+first_as read (p ∷ ps) = option_map (λ v. (v, ps)) (read p)
 
 -- All but the last of some parts.
 unfoldable pub ended : List (List ℕ) → List (List ℕ)
@@ -74,13 +73,9 @@ pub record Ends (s : List ℕ) (a e : ℕ) : Type 0 where
   pub low : a ≤ e
   pub high : e ≤ length s
 
--- What was read in a field, and where the next field begins: past the end, if that was the last.
-pub record Field (A : Type 0) : Type 0 where
-  pub value : A
-  pub next : ℕ
-
--- The field that begins at a, read; none where there is no field, or it is not of the form.
-unfoldable pub field_as : {A : Type 0} → (List ℕ → Option A) → List ℕ → ℕ → Option (Field A)
+-- The field that begins at a, read, and where the next begins: past the end, if it was the last. None where there is no field,
+-- or it is not of the form.
+unfoldable pub field_as : {A : Type 0} → (List ℕ → Option A) → List ℕ → ℕ → Option (A × ℕ)
 field_as read s a =
     let e = find_from tab_byte s a in
-    cond (leb a (length s)) (map (λ v. record { value = v; next = e + 1 }) (read (part s a e))) none
+    cond (leb a (length s)) (option_map (λ v. (v, e + 1)) (read (part s a e))) None

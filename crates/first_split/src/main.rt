@@ -2,7 +2,7 @@
 // It prints how many rows train, or the number of the refusal.
 #![tactic(auto)]
 
-use bench::{Marked, Settings, SplitNumber};
+use bench::{Rule, Settings, SplitNumber};
 use std::io;
 
 fn main(rt: HostRuntime) -> io::Result<()> {
@@ -10,8 +10,9 @@ fn main(rt: HostRuntime) -> io::Result<()> {
     let ends: [i64; 6] = [5, 20, 25, 35, 45, 55];
     let mut marks = [0u8; 6];
     let settings = Settings::new(3, 0.1);
-    match bench::kfold_window(&starts, &ends, settings, SplitNumber(0), &mut marks) {
-        Marked::Done(counts) => print!(rt; "{}", counts.train),
-        Marked::Refused(refusal) => print!(rt; "{}", refusal.number()),
+    let split = SplitNumber(0);
+    match bench::kfold(Rule::Window, &starts, &ends, settings, split, &mut marks) {
+        Ok(counts) => print!(rt; "{}", counts.train),
+        Err(refusal) => print!(rt; "{}", refusal.number()),
     }
 }

@@ -3,27 +3,24 @@ use mathlib.Core.Path.{◌≡◌, sym, ◌∙◌}
 use Prim.Native.Nat.{ℕ, ◌+◌, ◌≤◌, ◌<◌}
 use native.Mathlib.Omega.{arith}
 use borrow.Author.Tests.{lt-ltb}
+use Rattle.std.specs.Prelude.{Option, None, Some}
 use Rattle.paper.specs.Folds.{even_border}
 use Rattle.paper.proofs.FoldsMeaning.{even_border_closed, even_border-le, even_border_size}
-use Rattle.folds.specs.declared.FoldBounds.{FoldBounds}
-use Rattle.folds.specs.declared.FoldBounds.TheVariants.{Rows, NoSuchFold}
+use Rattle.folds.specs.declared.RowRange.{RowRange}
 use Rattle.folds.specs.Found.{bounds_of}
 
 module _ (n N f : ℕ) (h : f < N) where
-  found : bounds_of n N f ≡ Rows (even_border n N f) (even_border n N (f + 1))
+  abbrev rows : RowRange
+  rows = record { first = even_border n N f; past = even_border n N (f + 1) }
+
+  found : bounds_of n N f ≡ Some rows
   found = rw (lt-ltb f N h)
 
-  pub bounds_first : (b e : ℕ) → bounds_of n N f ≡ Rows b e → b ≡ even_border n N f
-  bounds_first b e k = let z : Rows b e ≡ Rows (even_border n N f) (even_border n N (f + 1)) = sym k ∙ found in cc
+  pub bounds_rows : (r : RowRange) → bounds_of n N f ≡ Some r → r ≡ rows
+  bounds_rows r k = let z : Some r ≡ Some rows = sym k ∙ found in cc
 
-  pub bounds_past : (b e : ℕ) → bounds_of n N f ≡ Rows b e → e ≡ even_border n N (f + 1)
-  bounds_past b e k = let z : Rows b e ≡ Rows (even_border n N f) (even_border n N (f + 1)) = sym k ∙ found in cc
-
-  pub bounds_some : bounds_of n N f ≡ NoSuchFold → ⊥
-  bounds_some k =
-      let z : ◌≡◌ {A = FoldBounds} NoSuchFold (Rows (even_border n N f) (even_border n N (f + 1))) = sym k ∙ found in
-      let y : ◌≡◌ {A = ℕ} 0 1 = cc in
-      omega arith
+  pub bounds_some : bounds_of n N f ≡ None → ⊥
+  bounds_some k = let z : ◌≡◌ {A = Option RowRange} None (Some rows) = sym k ∙ found in cc
 
   -- They lie in order within the rows.
   pub bounds_order : even_border n N f ≤ even_border n N (f + 1)

@@ -7,28 +7,24 @@
 --   whole path p              that, for each fold
 -- Each law is of any answer that the call's contract allows: the contract's equations are its premises, and the answer r is
 -- arbitrary. Nothing here knows how an answer is worked out.
-use Rattle.std.specs.Prelude.{◌≡◌, refl, Bool, true, false, not, ◌||◌, List, [], ◌∷◌, ◌++◌, ℕ, ◌+◌, ◌-◌, ◌<◌, eqb, leb, ltb, length, get_or}
+use Rattle.std.specs.Prelude.{◌≡◌, refl, Bool, true, false, not, ◌||◌, List, [], ◌∷◌, ◌++◌, ℕ, ◌+◌, ◌-◌, ◌<◌, eqb, leb, ltb, length, get_or, Option, Some, None, Result, Ok}
 use Rattle.std.proofs.Common.{sym, ap, ◌∙◌, pos_of_ne-zero, arith, lt-ltb, le-ltb, eq-eqb}
-use Prim.{tt}
+use Prim.{Unit, tt}
 use Rattle.std.proofs.lemmas.Bool.{lt-leb, eqb-false, not-true}
 use Rattle.lists.specs.AnyLaws.{both, never}
 use Rattle.lists.specs.TabLaws.{length-tab, get_d_tab}
 use Rattle.paper.specs.declared.numbers.FoldSet.{FoldSet}
-use Rattle.paper.specs.declared.answers.Counted.{Counted}
-use Rattle.paper.specs.declared.answers.Written.{Written}
-use Rattle.paper.specs.declared.answers.Placed.{Placed}
-use Rattle.paper.specs.declared.answers.Next.{Next}
-use Rattle.paper.specs.declared.answers.SplitFolds.{SplitFolds}
-use Rattle.paper.specs.declared.answers.NextSet.{NextSet}
+use Rattle.paper.specs.declared.numbers.SplitNumber.{SplitNumber}
+use Rattle.paper.specs.declared.refusal.Refusal.{Refusal}
 use Rattle.paper.specs.Refusals.{done}
 use Rattle.paper.specs.Sets.{choose, listing, entry}
 use Rattle.paper.specs.Paths.{tests_of, paths, split_on_path, path_of}
-use Rattle.paper.specs.Handed.{handed, no_folds, list_of}
-use Rattle.paper.specs.Places.{place_of, has_next}
-use Rattle.paper.specs.Answers.{said_counted, said_written, said_placed, said_next}
+use Rattle.paper.specs.Handed.{handed, list_of}
+use Rattle.paper.specs.Places.{place_of, has_next, next_folds}
+use Rattle.paper.specs.Answers.{said, said_placed}
 use Rattle.paper.specs.Checks.{Check, no_such, no_split, combination_checks, numbers_checks, split_checks, set_checks, path_checks, whole_path_checks}
-use Rattle.paper.specs.SplitCalls.{split_count, path_count, split_folds, split_handed, set_number, set_next, next_handed, path_split, path_written, path_after}
-use Rattle.paper.proofs.AnswersMeaning.{said_counted_one, said_written_one, said_placed_one, said_next_one}
+use Rattle.paper.specs.SplitCalls.{split_count, path_count, split_folds, set_number, set_next, path_split, path_written, path_after}
+use Rattle.paper.proofs.AnswersMeaning.{said_one, said_placed_one}
 use Rattle.paper.proofs.ChecksMeaning.{clear, checked-clear}
 use Rattle.paper.proofs.Listing.{listing-length}
 use Rattle.paper.proofs.ListingMeaning.{entry-is_split}
@@ -50,9 +46,9 @@ clear_join (c ∷ xs) ys a b = let t = both {a = not c.due} a in rw t.0 (clear_j
 module _ (N k : ℕ) (accepted : Accepted N k) where
   -- ---- counts
 
-  pub split_count_listed : (r : Counted) → said_counted r ≡ split_count N k → r ≡ Counted.Done (length (listing 0 N k))
+  pub split_count_listed : (r : Result ℕ Refusal) → said r ≡ split_count N k → r ≡ Ok (length (listing 0 N k))
   split_count_listed r answer =
-      said_counted_one r (Counted.Done (length (listing 0 N k)))
+      said_one r (Ok (length (listing 0 N k)))
       (answer ∙ checked-clear (numbers_checks N k) (choose N k) accepted ∙ ap done (sym (listing-length 0 N k)))
 
   some : 0 < k
@@ -62,11 +58,11 @@ module _ (N k : ℕ) (accepted : Accepted N k) where
       pos_of_ne-zero (eqb-false k 0 (first_false (eqb k 0) (leb N k) u))
 
   -- There are as many paths as splits that test a fold, whichever fold it is: C(N-1,k-1).
-  pub path_count_listed : (g : ℕ) → g < N → (r : Counted) → said_counted r ≡ path_count N k
-      → (r ≡ Counted.Done (tests_of g (listing 0 N k))) × (tests_of g (listing 0 N k) ≡ choose (N - 1) (k - 1))
+  pub path_count_listed : (g : ℕ) → g < N → (r : Result ℕ Refusal) → said r ≡ path_count N k
+      → (r ≡ Ok (tests_of g (listing 0 N k))) × (tests_of g (listing 0 N k) ≡ choose (N - 1) (k - 1))
   path_count_listed g h r answer =
       let tests = tests_of-paths N k g h some in (
-        said_counted_one r (Counted.Done (tests_of g (listing 0 N k)))
+        said_one r (Ok (tests_of g (listing 0 N k)))
             (answer ∙ checked-clear (numbers_checks N k) (paths N k) accepted ∙ ap done (sym tests)),
         tests,
       )
@@ -76,12 +72,11 @@ module _ (N k : ℕ) (accepted : Accepted N k) where
   split_clear : (s : ℕ) → s < choose N k → clear (split_checks N k s) ≡ true
   split_clear s h = clear_join (numbers_checks N k) (no_such (choose N k) s ∷ []) accepted (rw (lt-leb (choose N k) s h))
 
-  pub folds_listed : (s : ℕ) → s < choose N k → (r : SplitFolds)
-      → said_written r.outcome ≡ split_folds N k s → r.folds ≡ split_handed N k s
-      → (r.outcome ≡ Written.Done) × (r.folds ≡ handed (entry N k s))
-  folds_listed s h r answer folds =
-      let d = checked-clear (split_checks N k s) tt (split_clear s h) in
-      (said_written_one r.outcome Written.Done (answer ∙ d), folds ∙ rw d)
+  pub folds_listed : (s : ℕ) → s < choose N k → (r : Result FoldSet Refusal)
+      → said r ≡ split_folds N k s → r ≡ Ok (handed (entry N k s))
+  folds_listed s h r answer =
+      said_one r (Ok (handed (entry N k s)))
+      (answer ∙ checked-clear (split_checks N k s) (handed (entry N k s)) (split_clear s h))
 
   -- ---- number of a set, and next set
 
@@ -93,50 +88,52 @@ module _ (N k : ℕ) (accepted : Accepted N k) where
     place : place_of N k (list_of set) ≡ i
     place = place_of-entry N k i (list_of set) within (sym is)
 
-    pub number_listed : (r : Placed) → said_placed r ≡ set_number N k (list_of set) → r ≡ Placed.Done (record { 0 = i })
+    pub number_listed : (r : Result SplitNumber Refusal) → said_placed r ≡ set_number N k (list_of set) → r ≡ Ok (record { 0 = i })
     number_listed r answer =
-        said_placed_one r (Placed.Done (record { 0 = i }))
+        said_placed_one r (Ok (record { 0 = i }))
         (answer ∙ checked-clear (set_checks N k (list_of set)) (place_of N k (list_of set)) set_clear ∙ ap done place)
 
-    module _ (r : NextSet) (answer : said_next r.outcome ≡ set_next N k (list_of set)) (folds : r.folds ≡ next_handed N k (list_of set)) where
-      said : set_next N k (list_of set) ≡ done (has_next N k (list_of set))
-      said = checked-clear (set_checks N k (list_of set)) (has_next N k (list_of set)) set_clear
+    module _ (r : Result (Option FoldSet) Refusal) (answer : said r ≡ set_next N k (list_of set)) where
+      is_next : r ≡ Ok (next_folds N k (list_of set))
+      is_next =
+          said_one r (Ok (next_folds N k (list_of set)))
+          (answer ∙ checked-clear (set_checks N k (list_of set)) (next_folds N k (list_of set)) set_clear)
 
-      pub next_listed : i + 1 < choose N k → (r.outcome ≡ Next.After) × (r.folds ≡ handed (entry N k (i + 1)))
+      pub next_listed : i + 1 < choose N k → r ≡ Ok (Some (handed (entry N k (i + 1))))
       next_listed more =
           let t : has_next N k (list_of set) ≡ true = rw place (lt-ltb (i + 1) (choose N k) more) in
-          (said_next_one r.outcome Next.After (answer ∙ said ∙ ap done t), folds ∙ rw (said, t, place))
+          is_next ∙ rw (t, place)
 
-      pub next_last : i + 1 ≡ choose N k → (r.outcome ≡ Next.Last) × (r.folds ≡ no_folds)
+      pub next_last : i + 1 ≡ choose N k → r ≡ Ok None
       next_last last =
           let f : has_next N k (list_of set) ≡ false = rw place (le-ltb (i + 1) (choose N k) (omega arith)) in
-          (said_next_one r.outcome Next.Last (answer ∙ said ∙ ap done f), folds ∙ rw (said, f))
+          is_next ∙ rw f
 
   -- ---- paths
 
   -- `Pth ss g p i`: i is the place of the p-th of the sets ss, from 0, that hold g. There is only one: `pth_one` of paper.
   module _ (p : ℕ) (h : p < paths N k) where
-    pub path_listed : (g : ℕ) → g < N → (r : Placed) → said_placed r ≡ path_split N k p g
-        → (i : ℕ) × (r ≡ Placed.Done (record { 0 = i })) × Pth (listing 0 N k) g p i
+    pub path_listed : (g : ℕ) → g < N → (r : Result SplitNumber Refusal) → said_placed r ≡ path_split N k p g
+        → (i : ℕ) × (r ≡ Ok (record { 0 = i })) × Pth (listing 0 N k) g p i
     path_listed g hg r answer =
         let i = split_on_path N k p g in
         let c = clear_join (numbers_checks N k) (no_such (paths N k) p ∷ no_such N g ∷ []) accepted
         (rw (lt-leb (paths N k) p h, lt-leb N g hg)) in (
           i,
-          said_placed_one r (Placed.Done (record { 0 = i })) (answer ∙ checked-clear (path_checks N k p g) i c),
+          said_placed_one r (Ok (record { 0 = i })) (answer ∙ checked-clear (path_checks N k p g) i c),
           split_on_path_is N k g hg some p h,
         )
 
     -- The lent list has N places; afterwards the p-th split that tests g stands at place g.
-    pub whole_path_listed : (old new : List ℕ) → length old ≡ N → (r : Written)
-        → said_written r ≡ path_written N k p (length old) → new ≡ path_after N k p old
-        → (r ≡ Written.Done) × (length new ≡ N) × ((g : ℕ) → g < N → Pth (listing 0 N k) g p (get_or new g 0))
+    pub whole_path_listed : (old new : List ℕ) → length old ≡ N → (r : Result (Unit {0}) Refusal)
+        → said r ≡ path_written N k p (length old) → new ≡ path_after N k p old
+        → (r ≡ Ok tt) × (length new ≡ N) × ((g : ℕ) → g < N → Pth (listing 0 N k) g p (get_or new g 0))
     whole_path_listed old new long r answer written =
         let t = both {a = not (ltb N 2)} accepted in
         let c = clear_join (combination_checks N k) (no_such (paths N k) p ∷ []) t.1 (rw (lt-leb (paths N k) p h)) in
         let d = checked-clear (whole_path_checks N k p (length old)) (tt {0}) (rw (t.0, eq-eqb (length old) N long) c) in
         let is : new ≡ path_of N k p = written ∙ rw d in (
-          said_written_one r Written.Done (answer ∙ d),
+          said_one r (Ok tt) (answer ∙ d),
           rw is (length-tab (split_on_path N k p) N),
           λ g hg. rw (is, get_d_tab (split_on_path N k p) 0 N g hg) (split_on_path_is N k g hg some p h),
         )

@@ -1,15 +1,14 @@
 -- Unique: any two outcomes that a contract allows are the same.
 --
 -- A contract says two things: the answer, in the paper's numbers, is the first refusal of the call's chain that is due, or
--- the result; and what goes out beside the answer (the lent list, or the folds of a split) is what the paper says of that
--- outcome. Both are equations, and no two answers say the same. So an answer with what goes out beside it is settled.
+-- the result; and what is left in the lent list is what the paper says of that outcome. Both are equations, and no two answers say the same. So an answer with what is left beside it is settled.
 -- Stated once of all calls, and named for each kind of answer: a call is an instance by its chain, result and lent list.
 use Rattle.std.specs.Prelude.{◌≡◌, List}
 use Rattle.std.proofs.Common.{sym, ◌∙◌}
 use Rattle.paper.specs.Refusals.{Outcome}
 use Rattle.paper.specs.Checks.{Check, checked, lent}
-use Rattle.paper.specs.Answers.{said_marked, said_written, said_counted, said_placed, said_next, said_overlaps}
-use Rattle.paper.proofs.AnswersMeaning.{said_marked_one, said_written_one, said_counted_one, said_placed_one, said_next_one, said_overlaps_one}
+use Rattle.paper.specs.Answers.{said, said_placed, said_overlaps}
+use Rattle.paper.proofs.AnswersMeaning.{said_one, said_placed_one, said_overlaps_one}
 
 -- Answer a, with x beside it, is allowed where the paper says `out` and `beside`.
 pub record Allowed {A R X : Type 0} (said : A → Outcome R) (out : Outcome R) (beside : X) (a : A) (x : X) : Type 0 where
@@ -39,25 +38,14 @@ call_unique said u checks result old new a b l m p q = u.same p q
 
 -- ---- each kind of answer
 
--- k-fold, combinations, walk-forward and the rolling layout, by either rule.
-pub marked_unique : Unique said_marked
-marked_unique = unique said_marked said_marked_one
-
--- Train times, joining, a whole path; the folds of a split, which go out beside it.
-pub written_unique : Unique said_written
-written_unique = unique said_written said_written_one
-
--- Split and path counts.
-pub counted_unique : Unique said_counted
-counted_unique = unique said_counted said_counted_one
+-- An answer that says its result as it is: counts of marks, a number of splits or of paths, the folds of a split, the set
+-- after a given one, or nothing beside a lent list.
+pub answer_unique : {A : Type 0} → Unique (said {A = A})
+answer_unique = unique said said_one
 
 -- The number of a fold set, the split on a path.
 pub placed_unique : Unique said_placed
 placed_unique = unique said_placed said_placed_one
-
--- The set after a given one, which goes out beside it.
-pub next_unique : Unique said_next
-next_unique = unique said_next said_next_one
 
 -- The overlap count.
 pub overlaps_unique : Unique said_overlaps

@@ -1,10 +1,10 @@
--- From ranges in arrays to each layout.
+-- From lists of ranges to each layout.
 use mathlib.Core.Path.{◌≡◌, refl, sym, ap, ap₂, ◌∙◌}
 use mathlib.Core.List.{List, [], ◌∷◌}
 use Prim.Native.Nat.{ℕ, zero, suc, ◌+◌, ◌-◌, ◌≤◌, ◌<◌, min}
 use native.Mathlib.Omega.{arith}
 use lib.Dec.{leb}
-use lib.ListN.{get_or}
+use lib.ListN.{get_or, take}
 use lib.Seq.{get_or-take}
 use borrow.Author.Tests.{lt-leb}
 use Rattle.paper.specs.declared.answers.Counts.{Counts}
@@ -89,9 +89,9 @@ rolling_cut r T b size e h k =
 
 -- ---- folds of a set
 
--- Fold j of a set, as code reads it from the array.
+-- Fold j of a set, as code reads it from the places that are filled.
 abbrev pub fold_at : FoldSet → ℕ → ℕ
-fold_at set j = (get_or set.folds j (record { 0 = 0 })).0
+fold_at set j = (get_or (take set.count set.folds) j (record { 0 = 0 })).0
 
 numbers_at : (l : List FoldNumber) (j : ℕ) → get_or (numbers l) j 0 ≡ (get_or l j (record { 0 = 0 })).0
 numbers_at [] j = refl
@@ -100,7 +100,9 @@ numbers_at (f ∷ l) (suc j) = numbers_at l j
 
 module _ {n N : ℕ} {set : FoldSet} (s : SetIn n N set) (j : ℕ) (l : j < set.count) where
   listed : get_or (list_of set) j 0 ≡ fold_at set j
-  listed = rw get_or-take (numbers_at set.folds j)
+  listed =
+      let here = get_or-take set.count set.folds j (record { 0 = 0 }) l in
+      rw get_or-take (numbers_at set.folds j) ∙ sym (ap (λ f. f.0) here)
 
   pub set_below : fold_at set j < N
   set_below = rw listed at (is_split_below N set.count (list_of set) s.split j l)

@@ -32,7 +32,7 @@ pub record SetIn (n N : ℕ) (set : FoldSet) : Type 0 where
   pub few : set.count ≤ 64
   pub split : is_split N set.count (list_of set) ≡ true
 
--- The arrays hold where each fold of the set begins and ends.
+-- Where each of the first k folds of the set begins and ends, held by two functions of a place in it.
 pub record RangesOf (n N : ℕ) (set : FoldSet) (from to : ℕ → ℕ) (k : ℕ) : Type 0 where
   pub begin : (j : ℕ) → j < k → from j ≡ fold_from (even_borders n N) (list_of set) j
   pub end : (j : ℕ) → j < k → to j ≡ fold_to (even_borders n N) (list_of set) j

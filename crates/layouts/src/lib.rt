@@ -6,155 +6,124 @@
 // - the embargo of the rolling layout is not worked out: it can reach no training row.
 #![tactic(auto)]
 
-ghost use Rattle.std.specs.Prelude.{◌≡◌, ◌+◌, ◌≤◌, ◌<◌, min, length};
-ghost use Rattle.paper.specs.Spans.{table};
+ghost use Rattle.std.specs.Prelude.{◌≡◌, ◌+◌, ◌≤◌, ◌<◌, length};
 ghost use Rattle.paper.specs.Folds.{even_border, even_borders};
 ghost use Rattle.paper.specs.Marks.{by_window, by_pair, marks_of};
 ghost use Rattle.paper.specs.Layouts.{forward, kfold};
-ghost use Rattle.blocks.specs.Held.{rule_of, nth};
+ghost use Rattle.spans.specs.Tables.{table_of, rows_in};
+ghost use Rattle.paper.specs.Rules.{rule_of};
+ghost use Rattle.blocks.specs.Held.{firsts, pasts};
 ghost use Rattle.marks.specs.Accepted.{Accepted, Written};
 ghost use Rattle.layouts.specs.Tested.{one_range, forward_fold, cross_set, FoldIn, SetIn, RangesOf};
 
-use blocks::Rule;
-use folds::{FoldBounds, contiguous_fold_bounds};
+use blocks::NO_ROWS;
+use folds::{RowRange, contiguous_fold_bounds};
 use marks::mark_ranges;
-use paper::{Counts, FoldNumber, FoldSet};
+use paper::{Counts, FoldNumber, FoldSet, Rule};
+use rows::Terms;
+use spans::Table;
 
 // ---- one range
 
-// The marks of the split that tests the rows b up to e. Rows from `used` on take no part.
-fn mark_range(
-    rule: Rule,
-    starts: &[i64],
-    ends: &[i64],
-    b: usize,
-    e: usize,
-    used: usize,
-    width: usize,
-    marks: &mut [u8],
-) -> Counts
-    requires accepted { Accepted starts.now ends.now marks.old }
-    requires b_lt_e { (b < e) × (e ≤ length starts.now) }
-    ensures { Written (marks_of (rule_of rule) (table starts.now ends.now) (one_range b e used width)) marks.new result }
+// The marks of the split that tests some rows.
+fn mark_range(terms: Terms, table: &Table, rows: RowRange, marks: &mut [u8]) -> Counts
+    requires accepted { Accepted table.now marks.old }
+    requires rows_in_bounds { (rows.first < rows.past) × (rows.past ≤ rows_in table.now) }
+    ensures { Written (marks_of (rule_of terms.rule) (table_of table.now) (one_range rows.first rows.past terms.used terms.width)) marks.new result }
 {
-    let from = [b; 64];
-    let to = [e; 64];
-    mark_ranges(rule, starts, ends, &from, &to, 1, used, width, marks)
+    mark_ranges(terms, table, &[rows], marks)
 }
 
 // k-fold: a fold is tested.
 pub fn mark_fold(
     rule: Rule,
-    starts: &[i64],
-    ends: &[i64],
+    table: &Table,
     folds: usize,
     fold: FoldNumber,
     width: usize,
     marks: &mut [u8],
 ) -> Counts
-    requires accepted { Accepted starts.now ends.now marks.old }
-    requires fold_in { FoldIn (length starts.now) folds fold.0 }
-    ensures { Written (marks_of (rule_of rule) (table starts.now ends.now) (kfold (even_borders (length starts.now) folds) fold.0 width)) marks.new result }
+    requires accepted { Accepted table.now marks.old }
+    requires fold_in { FoldIn (rows_in table.now) folds fold.0 }
+    ensures { Written (marks_of (rule_of rule) (table_of table.now) (kfold (even_borders (rows_in table.now) folds) fold.0 width)) marks.new result }
 {
-    let n = starts.len();
-    let b = first_row(n, folds, fold);
-    let e = row_past(n, folds, fold);
-    mark_range(rule, starts, ends, b, e, n, width, marks)
+    let used = table.len();
+    let rows = fold_rows(used, folds, fold);
+    mark_range(Terms { rule, used, width }, table, rows, marks)
 }
 
 // Walk-forward: a fold is tested, and only rows before it can train.
-pub fn mark_walk_forward(
-    starts: &[i64],
-    ends: &[i64],
-    folds: usize,
-    fold: FoldNumber,
-    marks: &mut [u8],
-) -> Counts
-    requires accepted { Accepted starts.now ends.now marks.old }
-    requires fold_in { FoldIn (length starts.now) folds fold.0 }
-    ensures { Written (marks_of by_window (table starts.now ends.now) (forward_fold (length starts.now) folds fold.0)) marks.new result }
+pub fn mark_walk_forward(table: &Table, folds: usize, fold: FoldNumber, marks: &mut [u8]) -> Counts
+    requires accepted { Accepted table.now marks.old }
+    requires fold_in { FoldIn (rows_in table.now) folds fold.0 }
+    ensures { Written (marks_of by_window (table_of table.now) (forward_fold (rows_in table.now) folds fold.0)) marks.new result }
 {
-    let n = starts.len();
-    let b = first_row(n, folds, fold);
-    let e = row_past(n, folds, fold);
-    mark_range(Rule::Window, starts, ends, b, e, e, 0, marks)
+    let rows = fold_rows(table.len(), folds, fold);
+    let terms = Terms {
+        rule: Rule::Window,
+        used: rows.past,
+        width: 0,
+    };
+    mark_range(terms, table, rows, marks)
 }
 
 // Rolling: up to `size` rows from b on are tested, cut at the last row, and only rows before them can train.
-pub fn mark_rolling(starts: &[i64], ends: &[i64], b: usize, size: usize, marks: &mut [u8]) -> Counts
-    requires accepted { Accepted starts.now ends.now marks.old }
-    requires b_in_bounds { (b < length starts.now) × (0 < size) }
-    ensures { Written (marks_of by_pair (table starts.now ends.now) (forward b (b + size))) marks.new result }
+pub fn mark_rolling(table: &Table, b: usize, size: usize, marks: &mut [u8]) -> Counts
+    requires accepted { Accepted table.now marks.old }
+    requires b_in_bounds { (b < rows_in table.now) × (0 < size) }
+    ensures { Written (marks_of by_pair (table_of table.now) (forward b (b + size))) marks.new result }
 {
-    let e = b + least(size, starts.len() - b);
-    mark_range(Rule::Pair, starts, ends, b, e, e, 0, marks)
-}
-
-fn least(a: usize, b: usize) -> usize
-    ensures { result ≡ min a b }
-{
-    if a < b { a } else { b }
+    let past = b + size.min(table.len() - b);
+    let terms = Terms {
+        rule: Rule::Pair,
+        used: past,
+        width: 0,
+    };
+    mark_range(terms, table, RowRange { first: b, past }, marks)
 }
 
 // ---- folds
 
-// The first row of a fold.
-fn first_row(n: usize, folds: usize, fold: FoldNumber) -> usize
+// The rows of a fold.
+fn fold_rows(n: usize, folds: usize, fold: FoldNumber) -> RowRange
     requires { fold.0 < folds }
-    ensures { result ≡ even_border n folds fold.0 }
+    ensures { result ≡ record { first = even_border n folds fold.0; past = even_border n folds (fold.0 + 1) } }
 {
-    match contiguous_fold_bounds(n, folds, fold) {
-        FoldBounds::Rows(b, _) => b,
-        FoldBounds::NoSuchFold => 0,
-    }
+    contiguous_fold_bounds(n, folds, fold).unwrap()
 }
 
-// The row past a fold.
-fn row_past(n: usize, folds: usize, fold: FoldNumber) -> usize
-    requires { fold.0 < folds }
-    ensures { result ≡ even_border n folds (fold.0 + 1) }
+// The rows of each fold of a set, laid down from the start of a buffer.
+fn fold_ranges<'a>(
+    n: usize,
+    folds: usize,
+    set: FoldSet,
+    buffer: &'a mut [RowRange; 64],
+) -> &'a [RowRange]
+    requires { SetIn n folds set }
+    ensures many { length result.now ≡ set.count }
+    ensures ranges { RangesOf n folds set (firsts result.now) (pasts result.now) set.count }
 {
-    match contiguous_fold_bounds(n, folds, fold) {
-        FoldBounds::Rows(_, e) => e,
-        FoldBounds::NoSuchFold => n,
+    for (j, fold) in set.folds[..set.count].iter().enumerate() {
+        buffer[j] = fold_rows(n, folds, *fold);
     }
-}
-
-// Where each fold of a set begins and ends.
-fn fold_ranges(n: usize, folds: usize, set: FoldSet, from: &mut [usize; 64], to: &mut [usize; 64])
-    requires set_in { SetIn n folds set }
-    requires from_len { (length from.old ≡ 64) × (length to.old ≡ 64) }
-    ensures { RangesOf n folds set (nth from.new) (nth to.new) set.count }
-{
-    let list = set.folds;
-    let count = set.count;
-    let mut j = 0;
-    while j < count {
-        let fold = list[j];
-        from[j] = first_row(n, folds, fold);
-        to[j] = row_past(n, folds, fold);
-        j += 1;
-    }
+    &buffer[..set.count]
 }
 
 // Combinations: the folds of a set are tested.
 pub fn mark_folds(
     rule: Rule,
-    starts: &[i64],
-    ends: &[i64],
+    table: &Table,
     folds: usize,
     set: FoldSet,
     width: usize,
     marks: &mut [u8],
 ) -> Counts
-    requires accepted { Accepted starts.now ends.now marks.old }
-    requires set_in { SetIn (length starts.now) folds set }
-    ensures { Written (marks_of (rule_of rule) (table starts.now ends.now) (cross_set (length starts.now) folds set width)) marks.new result }
+    requires accepted { Accepted table.now marks.old }
+    requires set_in { SetIn (rows_in table.now) folds set }
+    ensures { Written (marks_of (rule_of rule) (table_of table.now) (cross_set (rows_in table.now) folds set width)) marks.new result }
 {
-    let mut from = [0usize; 64];
-    let mut to = [0usize; 64];
-    let n = starts.len();
-    let count = set.count;
-    fold_ranges(n, folds, set, &mut from, &mut to);
-    mark_ranges(rule, starts, ends, &from, &to, count, n, width, marks)
+    let mut buffer = [NO_ROWS; 64];
+    let used = table.len();
+    let ranges = fold_ranges(used, folds, set, &mut buffer);
+    mark_ranges(Terms { rule, used, width }, table, ranges, marks)
 }

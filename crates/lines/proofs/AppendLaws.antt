@@ -1,4 +1,4 @@
--- Laws of an append: it fits or not, and what it leaves in front and behind.
+-- Laws of an append: what it leaves where it fits and where it does not, in front and behind.
 use mathlib.Core.Path.{◌≡◌, ap}
 use mathlib.Core.List.{List, ◌++◌}
 use Prim.Native.Nat.{ℕ, ◌+◌, ◌≤◌, ◌<◌}
@@ -10,15 +10,6 @@ use borrow.Author.Tests.{le-leb, lt-leb}
 use Rattle.lines.specs.Appended.{overwritten, Appended}
 
 module _ (buffer : List ℕ) (at : ℕ) (text : List ℕ) where
-  pub append_is : at + length text ≤ length buffer → (after : List ℕ) → after ≡ overwritten buffer at text
-      → Appended buffer at text after (at + length text)
-  append_is h after e =
-      let t = le-leb (at + length text) (length buffer) h in
-      record { place = rw t; bytes = rw t e }
-
-  pub append-not : length buffer < at + length text → Appended buffer at text buffer (length buffer + 1)
-  append-not h = let t = lt-leb (at + length text) (length buffer) h in record { place = rw t; bytes = rw t }
-
   module _ (after : List ℕ) (next : ℕ) (a : Appended buffer at text after next) where
     -- A text that fits ends at the place that is answered. One that does not leaves all as it was.
     pub append_place : at + length text ≤ length buffer → next ≡ at + length text

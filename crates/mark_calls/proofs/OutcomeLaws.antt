@@ -13,14 +13,13 @@ use lib.ListN.{length}
 use Rattle.lists.specs.Base.{tally}
 use Rattle.paper.specs.declared.refusal.Refusal.{Refusal}
 use Rattle.paper.specs.declared.answers.Counts.{Counts}
-use Rattle.paper.specs.declared.answers.Marked.{Marked}
+use Rattle.std.specs.Prelude.{Result}
 use Rattle.paper.specs.Refusals.{done, refused, nothing, said_refusal}
-use Rattle.paper.specs.Answers.{said_marked}
+use Rattle.paper.specs.Answers.{said}
 use Rattle.paper.specs.Marks.{Rule, by_window, by_pair, counts_of}
 use Rattle.paper.specs.Checks.{Check, checked, lent, empty_train, zero_size, nothing_to_test, no_such}
-use Rattle.checks.specs.declared.checked.Checked.{Checked}
-use Rattle.checks.specs.Said.{said_checked}
-use Rattle.checks.proofs.ChainLaws.{append-clear, append_refused, then_fine, without17, lent_bad}
+use Rattle.spans.specs.declared.table.Table.{Table}
+use Rattle.checks.proofs.ChainLaws.{append-clear, refused_first, passed_clear, without17, lent_refused}
 use Rattle.paper.specs.declared.numbers.FoldSet.{FoldSet}
 use Rattle.paper.specs.Spans.{table}
 use Rattle.paper.specs.Sets.{choose, entry, is_split}
@@ -50,36 +49,40 @@ lent_empty {A} by_pair marks a old new = go (eqb (tally 0 marks) 0)
     go true = refl
     go false = refl
 
-module _ (front : List Check) (r : Rule) (marks old : List ℕ) {found : Checked} (h : said_checked found ≡ checked front tt) where
+module _ (front : List Check) (r : Rule) (marks old : List ℕ) where
   -- The call refused: what it says, and the list as it was.
-  pub refused_says : {q : Refusal} → found ≡ Checked.Bad q → said_refusal q ≡ checked (front ++ empty_train r marks) (counts_of marks)
-  refused_says e = sym (append_refused front (empty_train r marks) tt (counts_of marks) (sym (rw e at h)))
+  pub refused_says : (q : Refusal) → said_refusal q ≡ checked front (tt {0}) → said_refusal q ≡ checked (front ++ empty_train r marks) (counts_of marks)
+  refused_says q h = refused_first q front (empty_train r marks) (tt {0}) (counts_of marks) h
 
   pub refused_leaves :
-      {q : Refusal} → without17 front ≡ true → found ≡ Checked.Bad q →
+      (q : Refusal) → without17 front ≡ true → said_refusal q ≡ checked front (tt {0}) →
       old ≡ lent (checked (front ++ empty_train r marks) (counts_of marks)) old marks
-  refused_leaves {q} t e =
-      let l : old ≡ lent {A = Unit {0}} (said_refusal q) old marks = rw (sym (rw e at h)) at (lent_bad front t h e (tt {0}) old marks) in
-      rw (append_refused front (empty_train r marks) tt (counts_of marks) (sym (rw e at h))) l
+  refused_leaves q t h =
+      let l : old ≡ lent {A = Unit {0}} (said_refusal q) old marks = rw (sym h) at (lent_refused q front t (tt {0}) h (tt {0}) old marks) in
+      rw (← refused_says q h) l
 
   -- The call went on: what it says, and the marks.
-  pub marked_says :
-      found ≡ Checked.Fine → (m : Marked) {c : Counts} → c ≡ counts_of marks → said_marked m ≡ checked (trainless r c) c →
-      said_marked m ≡ checked (front ++ empty_train r marks) (counts_of marks)
-  marked_says e m {c} k s =
-      (rw k at s) ∙ sym (trainless_is r marks)
-      ∙ sym (append-clear front (empty_train r marks) (counts_of marks) (then_fine Checked.Fine found front h e))
+  module _ (h : done (tt {0}) ≡ checked front (tt {0})) where
+    pub marked_says :
+        (m : Result Counts Refusal) {c : Counts} → c ≡ counts_of marks → said m ≡ checked (trainless r c) c →
+        said m ≡ checked (front ++ empty_train r marks) (counts_of marks)
+    marked_says m {c} k s =
+        (rw k at s) ∙ sym (trainless_is r marks)
+        ∙ sym (append-clear front (empty_train r marks) (counts_of marks) (passed_clear front (tt {0}) h))
 
-  pub marked_leaves :
-      found ≡ Checked.Fine → {l : List ℕ} → l ≡ marks → l ≡ lent (checked (front ++ empty_train r marks) (counts_of marks)) old marks
-  marked_leaves e k =
-      k ∙ lent_empty r marks (counts_of marks) old marks
-      ∙ ap (λ o. lent o old marks) (sym (append-clear front (empty_train r marks) (counts_of marks) (then_fine Checked.Fine found front h e)))
+    pub marked_leaves : {l : List ℕ} → l ≡ marks → l ≡ lent (checked (front ++ empty_train r marks) (counts_of marks)) old marks
+    marked_leaves k =
+        k ∙ lent_empty r marks (counts_of marks) old marks
+        ∙ ap (λ o. lent o old marks) (sym (append-clear front (empty_train r marks) (counts_of marks) (passed_clear front (tt {0}) h)))
 
 -- What the worker asks of a table that the checks have let pass.
-pub accepted_of : {starts ends : List ℤ} {x : Float} (marks : List ℕ) → TableIn starts ends x (length marks) → Accepted starts ends marks
-accepted_of marks t =
-    record { same = t.same; small = t.few; good = record { each = t.in_order }; long = t.fits }
+pub accepted_of :
+    {starts ends : List ℤ} {x : Float} (t : Table) (marks : List ℕ) → t.starts.now ≡ starts → t.ends.now ≡ ends →
+    TableIn starts ends x (length marks) → Accepted t marks
+accepted_of t marks s e i =
+    let small : length t.starts.now ≤ 1048576 = rw s i.few in
+    let long : length marks ≡ length t.starts.now = rw s i.fits in
+    record { small = small; good = record { each = rw (s, e) i.in_order }; long = long }
 
 -- What the checks of the rolling layout have shown, 17 not among them.
 pub rolling_shown :

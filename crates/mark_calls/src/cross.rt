@@ -1,74 +1,40 @@
-// k-fold and combinations, by the window rule and by the pair rule (01, "Purge, embargo, marks" and "Refusal numbers").
+// k-fold and combinations, by the window rule or by the pair rule (01, "Purge, embargo, marks" and "Refusal numbers").
 // Source: `split_with_diagnostics` and `cpcv_splits` of cross_validation.rs, `run_cross_validation` and `run_cpcv` of
 // backtesting_engine.rs. Changed against them:
 // - one split a call, as marks in a lent list, with their counts;
-// - a refusal is an answer with 01's number, found in 01's order; 17 is that of one split, and not of the whole run.
+// - one call for both files, which is told the rule;
+// - a refusal is an error with 01's number, found in 01's order; 17 is that of one split, and not of the whole run.
 ghost use Rattle.std.specs.Prelude.{◌≡◌, length};
-ghost use Rattle.paper.specs.Marks.{by_window, by_pair};
 ghost use Rattle.paper.specs.Checks.{lent};
-ghost use Rattle.paper.specs.Answers.{said_marked};
+ghost use Rattle.paper.specs.Answers.{said};
+ghost use Rattle.paper.specs.Rules.{rule_of};
 ghost use Rattle.paper.specs.RowCalls.{kfold_marks, kfold_call, cpcv_marks, cpcv_call};
-ghost use Rattle.blocks.specs.Held.{rule_of};
 
-use crate::outcome::{trained, width_of};
-use blocks::Rule;
-use checks::Checked;
-use paper::{FoldNumber, Marked, Settings, SplitNumber};
+use crate::outcome::trained;
+use paper::{Counts, FoldNumber, Refusal, Rule, Settings, SplitNumber};
+use row_checks::layouts as checked;
 
-fn kfold(
+// Marks a k-fold split.
+pub fn kfold(
     rule: Rule,
     starts: &[i64],
     ends: &[i64],
     settings: Settings,
     split: SplitNumber,
     marks: &mut [u8],
-) -> Marked
-    ensures answer { said_marked result ≡ kfold_call (rule_of rule) starts.now ends.now settings split.0 (length marks.old) }
+) -> Result<Counts, Refusal>
+    ensures answer { said result ≡ kfold_call (rule_of rule) starts.now ends.now settings split.0 (length marks.old) }
     ensures list { marks.new ≡ lent (kfold_call (rule_of rule) starts.now ends.now settings split.0 (length marks.old)) marks.old (kfold_marks (rule_of rule) starts.now ends.now settings split.0) }
 {
-    let s = split.0;
-    match row_checks::layouts::kfold(starts, ends, settings, s, marks.len()) {
-        Checked::Bad(r) => Marked::Refused(r),
-        Checked::Fine => {
-            let width = width_of(settings.embargo, starts.len());
-            let fold = FoldNumber(s as usize);
-            trained(
-                rule,
-                layouts::mark_fold(rule, starts, ends, settings.folds, fold, width, marks),
-            )
-        }
-    }
+    let table = checked::kfold(starts, ends, settings, split.0, marks.len())?;
+    let width = width::rounded_up(settings.embargo, table.len());
+    let fold = FoldNumber(split.0 as usize);
+    let counts = layouts::mark_fold(rule, &table, settings.folds, fold, width, marks);
+    trained(rule, counts)
 }
 
-// Marks a k-fold split by the window rule.
-pub fn kfold_window(
-    starts: &[i64],
-    ends: &[i64],
-    settings: Settings,
-    split: SplitNumber,
-    marks: &mut [u8],
-) -> Marked
-    ensures answer { said_marked result ≡ kfold_call by_window starts.now ends.now settings split.0 (length marks.old) }
-    ensures list { marks.new ≡ lent (kfold_call by_window starts.now ends.now settings split.0 (length marks.old)) marks.old (kfold_marks by_window starts.now ends.now settings split.0) }
-{
-    kfold(Rule::Window, starts, ends, settings, split, marks)
-}
-
-// Marks a k-fold split by the pair rule.
-pub fn kfold_pair(
-    starts: &[i64],
-    ends: &[i64],
-    settings: Settings,
-    split: SplitNumber,
-    marks: &mut [u8],
-) -> Marked
-    ensures answer { said_marked result ≡ kfold_call by_pair starts.now ends.now settings split.0 (length marks.old) }
-    ensures list { marks.new ≡ lent (kfold_call by_pair starts.now ends.now settings split.0 (length marks.old)) marks.old (kfold_marks by_pair starts.now ends.now settings split.0) }
-{
-    kfold(Rule::Pair, starts, ends, settings, split, marks)
-}
-
-fn cpcv(
+// Marks a split of combinations.
+pub fn cpcv(
     rule: Rule,
     starts: &[i64],
     ends: &[i64],
@@ -76,50 +42,13 @@ fn cpcv(
     k: usize,
     split: SplitNumber,
     marks: &mut [u8],
-) -> Marked
-    ensures answer { said_marked result ≡ cpcv_call (rule_of rule) starts.now ends.now settings k split.0 (length marks.old) }
+) -> Result<Counts, Refusal>
+    ensures answer { said result ≡ cpcv_call (rule_of rule) starts.now ends.now settings k split.0 (length marks.old) }
     ensures list { marks.new ≡ lent (cpcv_call (rule_of rule) starts.now ends.now settings k split.0 (length marks.old)) marks.old (cpcv_marks (rule_of rule) starts.now ends.now settings k split.0) }
 {
-    let s = split.0;
-    match row_checks::layouts::cpcv(starts, ends, settings, k, s, marks.len()) {
-        Checked::Bad(r) => Marked::Refused(r),
-        Checked::Fine => {
-            let width = width_of(settings.embargo, starts.len());
-            let set = sets::set_at(settings.folds, k, s);
-            trained(
-                rule,
-                layouts::mark_folds(rule, starts, ends, settings.folds, set, width, marks),
-            )
-        }
-    }
-}
-
-// Marks a split of combinations by the window rule.
-pub fn cpcv_window(
-    starts: &[i64],
-    ends: &[i64],
-    settings: Settings,
-    k: usize,
-    split: SplitNumber,
-    marks: &mut [u8],
-) -> Marked
-    ensures answer { said_marked result ≡ cpcv_call by_window starts.now ends.now settings k split.0 (length marks.old) }
-    ensures list { marks.new ≡ lent (cpcv_call by_window starts.now ends.now settings k split.0 (length marks.old)) marks.old (cpcv_marks by_window starts.now ends.now settings k split.0) }
-{
-    cpcv(Rule::Window, starts, ends, settings, k, split, marks)
-}
-
-// Marks a split of combinations by the pair rule.
-pub fn cpcv_pair(
-    starts: &[i64],
-    ends: &[i64],
-    settings: Settings,
-    k: usize,
-    split: SplitNumber,
-    marks: &mut [u8],
-) -> Marked
-    ensures answer { said_marked result ≡ cpcv_call by_pair starts.now ends.now settings k split.0 (length marks.old) }
-    ensures list { marks.new ≡ lent (cpcv_call by_pair starts.now ends.now settings k split.0 (length marks.old)) marks.old (cpcv_marks by_pair starts.now ends.now settings k split.0) }
-{
-    cpcv(Rule::Pair, starts, ends, settings, k, split, marks)
+    let (table, choice) = checked::cpcv(starts, ends, settings, k, split.0, marks.len())?;
+    let width = width::rounded_up(settings.embargo, table.len());
+    let set = choice.set_at(split.0);
+    let counts = layouts::mark_folds(rule, &table, settings.folds, set, width, marks);
+    trained(rule, counts)
 }

@@ -5,5 +5,5 @@ pub mod cross;
 pub mod forward;
 pub mod outcome;
 
-pub use cross::{cpcv_pair, cpcv_window, kfold_pair, kfold_window};
+pub use cross::{cpcv, kfold};
 pub use forward::{rolling, walk_forward};

@@ -1,7 +1,7 @@
 -- By which rule to work out the marks: where starts never decrease, the window rule gives the pair rule's.
 use Rattle.std.specs.Prelude.{Bool, true, false}
-use Rattle.blocks.specs.declared.Rule.{Rule}
-use Rattle.blocks.specs.declared.Rule.TheVariants.{Window, Pair}
+use Rattle.paper.specs.declared.rule.Rule.{Rule}
+use Rattle.paper.specs.declared.rule.Rule.TheVariants.{Window, Pair}
 
 -- The second argument: do starts ever decrease?
 abbrev pub way_of : Rule → Bool → Rule

@@ -1,6 +1,5 @@
 // Counts kept beside the marks. They move on by each mark without a branch.
-ghost use Rattle.std.specs.Prelude.{◌≡◌, ◌||◌, ◌≤◌, eqb};
-ghost use Rattle.lists.specs.Base.{bit};
+ghost use Rattle.std.specs.Prelude.{◌≡◌};
 ghost use Rattle.laws.specs.MarkCounts.{no_counts, one_more, AtMost};
 
 use paper::Counts;
@@ -23,23 +22,9 @@ pub fn one_more(counts: Counts, m: u8) -> Counts
     ensures { result ≡ one_more counts m }
 {
     Counts {
-        train: counts.train + one(m, 0),
-        test: counts.test + one(m, 1),
-        purged: counts.purged + either(m, 2, 4),
-        embargoed: counts.embargoed + either(m, 3, 4),
+        train: counts.train + usize::from(m == 0),
+        test: counts.test + usize::from(m == 1),
+        purged: counts.purged + usize::from((m == 2) | (m == 4)),
+        embargoed: counts.embargoed + usize::from((m == 3) | (m == 4)),
     }
-}
-
-// 1 if the mark is v, else 0.
-fn one(m: u8, v: u8) -> usize
-    ensures { (result ≡ bit (eqb m v)) × (result ≤ 1) }
-{
-    if m == v { 1 } else { 0 }
-}
-
-// 1 if the mark is v or w, else 0.
-fn either(m: u8, v: u8, w: u8) -> usize
-    ensures { (result ≡ bit (eqb m v || eqb m w)) × (result ≤ 1) }
-{
-    if m == v { 1 } else { one(m, w) }
 }

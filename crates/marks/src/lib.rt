@@ -8,42 +8,33 @@
 #![tactic(auto)]
 
 ghost use Rattle.std.specs.Prelude.{◌≡◌, ◌≤◌, length};
-ghost use Rattle.paper.specs.Spans.{table};
 ghost use Rattle.paper.specs.Marks.{marks_of};
 ghost use Rattle.scans.specs.Falls.{starts_fall};
-ghost use Rattle.blocks.specs.Held.{rule_of, nth, array_split, Blocks};
-ghost use Rattle.rows.specs.Asked.{Held};
+ghost use Rattle.spans.specs.Tables.{table_of, rows_in};
+ghost use Rattle.paper.specs.Rules.{rule_of};
+ghost use Rattle.blocks.specs.Held.{firsts, pasts, list_split, block_split, Blocks};
 ghost use Rattle.marks.specs.Accepted.{Accepted, Markable, Written};
 ghost use Rattle.marks.specs.Ways.{way_of};
 
 mod counts;
 
-use blocks::{Rule, bound_blocks, merge_adjacent};
+use blocks::{NO_BLOCK, NO_ROWS, bound_blocks, merge_adjacent};
 use counts::{no_counts, one_more};
-use paper::Counts;
-use rows::row_mark;
+use folds::RowRange;
+use paper::{Counts, Rule};
+use rows::{Marker, Terms};
 use scans::starts_fall;
+use spans::Table;
 
-// The marks of the split that tests count ranges, from from[j] up to to[j]. Rows from `used` on take no part.
-pub fn mark_ranges(
-    rule: Rule,
-    starts: &[i64],
-    ends: &[i64],
-    from: &[usize; 64],
-    to: &[usize; 64],
-    count: usize,
-    used: usize,
-    width: usize,
-    marks: &mut [u8],
-) -> Counts
-    requires { Markable starts.now ends.now (nth from.now) (nth to.now) count marks.old }
-    ensures { Written (marks_of (rule_of rule) (table starts.now ends.now) (array_split from.now to.now count used width)) marks.new result }
+// The marks of the split that tests some ranges.
+pub fn mark_ranges(terms: Terms, table: &Table, ranges: &[RowRange], marks: &mut [u8]) -> Counts
+    requires { Markable table.now ranges.now marks.old }
+    ensures { Written (marks_of (rule_of terms.rule) (table_of table.now) (list_split ranges.now terms.used terms.width)) marks.new result }
 {
-    let mut first = [0usize; 64];
-    let mut past = [0usize; 64];
-    let blocks = merge_adjacent(from, to, count, &mut first, &mut past);
-    let by = way(rule, starts);
-    mark_blocks(by, starts, ends, &first, &past, blocks, used, width, marks)
+    let mut buffer = [NO_ROWS; 64];
+    let blocks = merge_adjacent(ranges, &mut buffer);
+    let rule = way(terms.rule, table.starts);
+    mark_blocks(Terms { rule, ..terms }, table, blocks, marks)
 }
 
 // The rule to work by.
@@ -51,80 +42,37 @@ fn way(rule: Rule, starts: &[i64]) -> Rule
     ensures { result ≡ way_of rule (starts_fall starts.now) }
 {
     match rule {
-        Rule::Window => Rule::Window,
-        Rule::Pair => {
-            if starts_fall(starts) {
-                Rule::Pair
-            } else {
-                Rule::Window
-            }
-        }
+        Rule::Pair if starts_fall(starts) => Rule::Pair,
+        _ => Rule::Window,
     }
 }
 
-// The marks of the split that tests the blocks, from first[j] up to past[j].
-fn mark_blocks(
-    rule: Rule,
-    starts: &[i64],
-    ends: &[i64],
-    first: &[usize; 64],
-    past: &[usize; 64],
-    blocks: usize,
-    used: usize,
-    width: usize,
-    marks: &mut [u8],
-) -> Counts
-    requires accepted { Accepted starts.now ends.now marks.old }
-    requires blocks_bound { (blocks ≤ 64) × Blocks (nth first.now) (nth past.now) blocks (length starts.now) }
-    ensures { Written (marks_of (rule_of rule) (table starts.now ends.now) (array_split first.now past.now blocks used width)) marks.new result }
+// The marks of the split that tests the blocks.
+fn mark_blocks(terms: Terms, table: &Table, blocks: &[RowRange], marks: &mut [u8]) -> Counts
+    requires accepted { Accepted table.now marks.old }
+    requires blocks_bound { (length blocks.now ≤ 64) × Blocks (firsts blocks.now) (pasts blocks.now) (length blocks.now) (rows_in table.now) }
+    ensures { Written (marks_of (rule_of terms.rule) (table_of table.now) (list_split blocks.now terms.used terms.width)) marks.new result }
 {
-    let mut lo = [0i64; 64];
-    let mut hi = [0i64; 64];
-    let mut embargo = [0usize; 64];
-    bound_blocks(
-        rule,
-        starts,
-        ends,
-        first,
-        past,
+    let mut buffer = [NO_BLOCK; 64];
+    let blocks = bound_blocks(terms.rule, table, blocks, &mut buffer);
+    let marker = Marker {
+        terms,
+        table: *table,
         blocks,
-        &mut lo,
-        &mut hi,
-        &mut embargo,
-    );
-    mark_rows(
-        rule, starts, ends, first, past, &lo, &hi, &embargo, blocks, used, width, marks,
-    )
+    };
+    mark_rows(&marker, marks)
 }
 
-// The pass over the rows, with what is held of the blocks.
-fn mark_rows(
-    rule: Rule,
-    starts: &[i64],
-    ends: &[i64],
-    first: &[usize; 64],
-    past: &[usize; 64],
-    lo: &[i64; 64],
-    hi: &[i64; 64],
-    embargo: &[usize; 64],
-    blocks: usize,
-    used: usize,
-    width: usize,
-    marks: &mut [u8],
-) -> Counts
-    requires accepted { Accepted starts.now ends.now marks.old }
-    requires held { Held rule starts.now ends.now (nth first.now) (nth past.now) blocks lo.now hi.now (nth embargo.now) }
-    ensures { Written (marks_of (rule_of rule) (table starts.now ends.now) (array_split first.now past.now blocks used width)) marks.new result }
+// The pass over the rows.
+fn mark_rows(marker: &Marker, marks: &mut [u8]) -> Counts
+    requires { Accepted marker.now.table marks.old }
+    ensures { Written (marks_of (rule_of marker.now.terms.rule) (table_of marker.now.table) (block_split marker.now.blocks.now marker.now.terms.used marker.now.terms.width)) marks.new result }
 {
     let mut counts = no_counts();
-    let mut i = 0;
-    while i < marks.len() {
-        let m = row_mark(
-            rule, starts, ends, first, past, lo, hi, embargo, blocks, used, width, i,
-        );
-        marks[i] = m;
+    for (i, mark) in marks.iter_mut().enumerate() {
+        let m = marker.row_mark(i);
+        *mark = m;
         counts = one_more(counts, m);
-        i += 1;
     }
     counts
 }

@@ -11,9 +11,10 @@ use Rattle.paper.specs.Folds.{within, even_border}
 use Rattle.paper.specs.Marks.{counts_of}
 use Rattle.paper.proofs.FoldsMeaning.{count-within, border_even}
 use Rattle.paper.specs.Overlaps.{naive_marks}
-use Rattle.folds.specs.declared.FoldBounds.TheVariants.{Rows}
+use Rattle.std.specs.Prelude.{Some}
+use Rattle.folds.specs.declared.RowRange.{RowRange}
 use Rattle.folds.specs.Found.{bounds_of}
-use Rattle.folds.proofs.BoundsLaws.{bounds_first, bounds_past, bounds_order, bounds_within}
+use Rattle.folds.proofs.BoundsLaws.{bounds_rows, bounds_order, bounds_within}
 use Rattle.naive.specs.NaiveIn.{NaiveIn}
 
 bit_one : (b : Bool) → eqb (bit b) 1 ≡ b
@@ -55,14 +56,11 @@ naive_range n N s h =
     (λ i l. ap₂ (λ b e. bit (within b e i)) (border_even n N s (omega arith)) (border_even n N (s + 1) (omega arith)))
 
 -- What the bounds of the fold give, once the checks have passed.
-module _ (n N s room : ℕ) (w : NaiveIn n N s room) (b e : ℕ) (k : bounds_of n N s ≡ Rows b e) where
-  pub plain_bounds : (b ≤ e) × (e ≤ room)
+module _ (n N s room : ℕ) (w : NaiveIn n N s room) (r : RowRange) (k : bounds_of n N s ≡ Some r) where
+  pub plain_bounds : (r.first ≤ r.past) × (r.past ≤ room)
   plain_bounds =
-      let x = bounds_first n N s w.below b e k in
-      let y = bounds_past n N s w.below b e k in
-      (rw (x, y) (bounds_order n N s w.below), rw (y, w.fits) (bounds_within n N s w.below))
+      let x = bounds_rows n N s w.below r k in
+      rw x (bounds_order n N s w.below, rw w.fits (bounds_within n N s w.below))
 
-  pub plain_marks : tab (λ i. bit (within b e i)) room ≡ naive_marks n N s
-  plain_marks =
-      rw (bounds_first n N s w.below b e k, bounds_past n N s w.below b e k, w.fits)
-      (sym (naive_range n N s w.below))
+  pub plain_marks : tab (λ i. bit (within r.first r.past i)) room ≡ naive_marks n N s
+  plain_marks = rw (bounds_rows n N s w.below r k, w.fits) (sym (naive_range n N s w.below))

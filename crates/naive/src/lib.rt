@@ -11,44 +11,29 @@ ghost use Rattle.paper.specs.Marks.{counts_of};
 ghost use Rattle.paper.specs.Overlaps.{naive_marks};
 ghost use Rattle.naive.specs.NaiveIn.{NaiveIn};
 
-use folds::FoldBounds;
+use folds::RowRange;
 use paper::{Counts, FoldNumber};
 
-// 1 for a row of the fold b up to e, 0 for any other.
-fn mark_of(b: usize, e: usize, i: usize) -> u8
-    ensures { result ≡ bit (within b e i) }
+// Writes 1 for a row of the fold, 0 for any other.
+fn write_marks(rows: RowRange, marks: &mut [u8])
+    ensures { marks.new ≡ tab (λ i. bit (within rows.first rows.past i)) (length marks.old) }
 {
-    if i < b {
-        0
-    } else if i < e {
-        1
-    } else {
-        0
+    for (i, m) in marks.iter_mut().enumerate() {
+        *m = u8::from(rows.contains(i));
     }
 }
 
-// Writes the marks of the fold b up to e.
-fn write_marks(b: usize, e: usize, marks: &mut [u8])
-    ensures { marks.new ≡ tab (λ i. bit (within b e i)) (length marks.old) }
+// Marks the fold, and counts.
+fn mark_range(rows: RowRange, marks: &mut [u8]) -> Counts
+    requires { (rows.first ≤ rows.past) × (rows.past ≤ length marks.old) }
+    ensures counts { result ≡ counts_of (tab (λ i. bit (within rows.first rows.past i)) (length marks.old)) }
+    ensures lent { marks.new ≡ tab (λ i. bit (within rows.first rows.past i)) (length marks.old) }
 {
-    let mut i = 0;
-    while i < marks.len() {
-        marks[i] = mark_of(b, e, i);
-        i += 1;
-    }
-}
-
-// Marks the fold b up to e, and counts.
-fn mark_range(b: usize, e: usize, marks: &mut [u8]) -> Counts
-    requires { (b ≤ e) × (e ≤ length marks.old) }
-    ensures counts { result ≡ counts_of (tab (λ i. bit (within b e i)) (length marks.old)) }
-    ensures lent { marks.new ≡ tab (λ i. bit (within b e i)) (length marks.old) }
-{
-    let n = marks.len();
-    write_marks(b, e, marks);
+    write_marks(rows, marks);
+    let test = rows.past - rows.first;
     Counts {
-        train: n - (e - b),
-        test: e - b,
+        train: marks.len() - test,
+        test,
         purged: 0,
         embargoed: 0,
     }
@@ -60,8 +45,6 @@ pub fn mark_plain_fold(n: usize, folds: usize, fold: FoldNumber, marks: &mut [u8
     ensures counts { result ≡ counts_of (naive_marks n folds fold.0) }
     ensures lent { marks.new ≡ naive_marks n folds fold.0 }
 {
-    match folds::contiguous_fold_bounds(n, folds, fold) {
-        FoldBounds::Rows(b, e) => mark_range(b, e, marks),
-        FoldBounds::NoSuchFold => mark_range(0, 0, marks),
-    }
+    let rows = folds::contiguous_fold_bounds(n, folds, fold).unwrap();
+    mark_range(rows, marks)
 }

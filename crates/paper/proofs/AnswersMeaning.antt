@@ -1,7 +1,7 @@
 -- The answers in the paper's terms are one to one: two refusals with the same number that carry the same are the same
 -- refusal, and two answers that say the same are the same answer. And each result is said as it is.
 use mathlib.Core.Path.{◌≡◌, refl, sym, ap, ap₂, ◌∙◌}
-use mathlib.Core.Bool.{true, false, cond}
+use mathlib.Core.Bool.{cond}
 use Prim.Native.Nat.{ℕ}
 use native.Mathlib.Omega.{arith}
 use lib.Dec.{eqb}
@@ -27,17 +27,11 @@ use Rattle.paper.specs.declared.refusal.Refusal.TheVariants.{
   ReturnsLength,
   NotFinite,
 }
-use Rattle.paper.specs.declared.answers.Counts.{Counts}
 use Rattle.paper.specs.declared.answers.OverlapCount.{OverlapCount}
 use Rattle.paper.specs.declared.numbers.SplitNumber.{SplitNumber}
-use Rattle.paper.specs.declared.answers.Marked.{Marked}
-use Rattle.paper.specs.declared.answers.Written.{Written}
-use Rattle.paper.specs.declared.answers.Counted.{Counted}
-use Rattle.paper.specs.declared.answers.Placed.{Placed}
-use Rattle.paper.specs.declared.answers.Next.{Next}
-use Rattle.paper.specs.declared.answers.Overlaps.{Overlaps}
 use Rattle.paper.specs.Refusals.{Carried, nothing, one, two, double, Outcome, done, refused, number_of, carried_by, said_refusal}
-use Rattle.paper.specs.Answers.{said_marked, said_written, said_counted, said_placed, said_next, said_overlaps}
+use Rattle.paper.specs.Answers.{said, said_placed, said_overlaps}
+use Rattle.std.specs.Prelude.{Result, Ok, Err}
 
 -- ---- a refusal from its number and what it carries
 
@@ -116,57 +110,30 @@ said_refusal_one {A} a b h =
 apart : {A X : Type 0} {a : A} {n : ℕ} {c : Carried} → ◌≡◌ {A = Outcome A} (done a) (refused n c) → X
 apart {a} {n} {c} h = absurd (let z : ◌≡◌ {A = ℕ} 0 1 = cc in omega arith)
 
-pub said_marked_one : (a b : Marked) → said_marked a ≡ said_marked b → a ≡ b
-said_marked_one (Marked.Done c) (Marked.Done d) h = cc
-said_marked_one (Marked.Done c) (Marked.Refused r) h = apart h
-said_marked_one (Marked.Refused q) (Marked.Done d) h = apart (sym h)
-said_marked_one (Marked.Refused q) (Marked.Refused r) h = ap Marked.Refused (said_refusal_one q r h)
+-- So two answers that say the same are the same.
+pub said_one : {A : Type 0} (a b : Result A Refusal) → said a ≡ said b → a ≡ b
+said_one (Ok c) (Ok d) h = cc
+said_one (Ok c) (Err r) h = apart h
+said_one (Err q) (Ok d) h = apart (sym h)
+said_one (Err q) (Err r) h = ap Err (said_refusal_one q r h)
 
-pub said_written_one : (a b : Written) → said_written a ≡ said_written b → a ≡ b
-said_written_one Written.Done Written.Done h = refl
-said_written_one Written.Done (Written.Refused r) h = apart h
-said_written_one (Written.Refused q) Written.Done h = apart (sym h)
-said_written_one (Written.Refused q) (Written.Refused r) h = ap Written.Refused (said_refusal_one q r h)
+pub said_placed_one : (a b : Result SplitNumber Refusal) → said_placed a ≡ said_placed b → a ≡ b
+said_placed_one (Ok c) (Ok d) h = let z : c.0 ≡ d.0 = cc in ap (λ x. Ok (record { 0 = x })) z
+said_placed_one (Ok c) (Err r) h = apart h
+said_placed_one (Err q) (Ok d) h = apart (sym h)
+said_placed_one (Err q) (Err r) h = ap Err (said_refusal_one q r h)
 
-pub said_counted_one : (a b : Counted) → said_counted a ≡ said_counted b → a ≡ b
-said_counted_one (Counted.Done c) (Counted.Done d) h = cc
-said_counted_one (Counted.Done c) (Counted.Refused r) h = apart h
-said_counted_one (Counted.Refused q) (Counted.Done d) h = apart (sym h)
-said_counted_one (Counted.Refused q) (Counted.Refused r) h = ap Counted.Refused (said_refusal_one q r h)
+pub said_overlaps_one : (a b : Result OverlapCount Refusal) → said_overlaps a ≡ said_overlaps b → a ≡ b
+said_overlaps_one (Ok c) (Ok d) h = let z : c.count ≡ d.count = cc in ap (λ x. Ok (record { count = x })) z
+said_overlaps_one (Ok c) (Err r) h = apart h
+said_overlaps_one (Err q) (Ok d) h = apart (sym h)
+said_overlaps_one (Err q) (Err r) h = ap Err (said_refusal_one q r h)
 
-pub said_placed_one : (a b : Placed) → said_placed a ≡ said_placed b → a ≡ b
-said_placed_one (Placed.Done c) (Placed.Done d) h = let z : c.0 ≡ d.0 = cc in ap (λ x. Placed.Done (record { 0 = x })) z
-said_placed_one (Placed.Done c) (Placed.Refused r) h = apart h
-said_placed_one (Placed.Refused q) (Placed.Done d) h = apart (sym h)
-said_placed_one (Placed.Refused q) (Placed.Refused r) h = ap Placed.Refused (said_refusal_one q r h)
+-- One to one would leave room to number from 1.
+pub record Results {A : Type 0} (a : A) (s : SplitNumber) (o : OverlapCount) : Type 0 where
+  pub result : said (Ok a) ≡ done a
+  pub placed : said_placed (Ok s) ≡ done s.0
+  pub overlaps : said_overlaps (Ok o) ≡ done o.count
 
-pub said_overlaps_one : (a b : Overlaps) → said_overlaps a ≡ said_overlaps b → a ≡ b
-said_overlaps_one (Overlaps.Done c) (Overlaps.Done d) h =
-    let z : c.count ≡ d.count = cc in
-    ap (λ x. Overlaps.Done (record { count = x })) z
-said_overlaps_one (Overlaps.Done c) (Overlaps.Refused r) h = apart h
-said_overlaps_one (Overlaps.Refused q) (Overlaps.Done d) h = apart (sym h)
-said_overlaps_one (Overlaps.Refused q) (Overlaps.Refused r) h = ap Overlaps.Refused (said_refusal_one q r h)
-
-pub said_next_one : (a b : Next) → said_next a ≡ said_next b → a ≡ b
-said_next_one Next.After Next.After h = refl
-said_next_one Next.After Next.Last h = let z : ◌≡◌ {A = ℕ} 0 1 = cc in absurd (omega arith)
-said_next_one Next.After (Next.Refused r) h = apart h
-said_next_one Next.Last Next.After h = let z : ◌≡◌ {A = ℕ} 0 1 = cc in absurd (omega arith)
-said_next_one Next.Last Next.Last h = refl
-said_next_one Next.Last (Next.Refused r) h = apart h
-said_next_one (Next.Refused q) Next.After h = apart (sym h)
-said_next_one (Next.Refused q) Next.Last h = apart (sym h)
-said_next_one (Next.Refused q) (Next.Refused r) h = ap Next.Refused (said_refusal_one q r h)
-
--- One to one would leave room to number from 1, or to say `After` for `Last`.
-pub record Results (c : Counts) (n : ℕ) (s : SplitNumber) (o : OverlapCount) : Type 0 where
-  pub marked : said_marked (Marked.Done c) ≡ done c
-  pub counted : said_counted (Counted.Done n) ≡ done n
-  pub placed : said_placed (Placed.Done s) ≡ done s.0
-  pub overlaps : said_overlaps (Overlaps.Done o) ≡ done o.count
-  pub after : said_next Next.After ≡ done true
-  pub last : said_next Next.Last ≡ done false
-
-pub said_results : (c : Counts) (n : ℕ) (s : SplitNumber) (o : OverlapCount) → Results c n s o
-said_results c n s o = record { marked = refl; counted = refl; placed = refl; overlaps = refl; after = refl; last = refl }
+pub said_results : {A : Type 0} (a : A) (s : SplitNumber) (o : OverlapCount) → Results a s o
+said_results a s o = record { result = refl; placed = refl; overlaps = refl }

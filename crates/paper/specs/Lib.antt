@@ -14,6 +14,7 @@ pub mod Paths
 pub mod Places
 pub mod Refusals
 pub mod RowCalls
+pub mod Rules
 pub mod Sets
 pub mod Spans
 pub mod SplitCalls

@@ -1,13 +1,13 @@
 -- What each call on splits and paths comes to: its checks, then its result (01, "Combinations and paths" and "Refusal
 -- numbers"). The contracts of the public calls cite these.
-use Rattle.std.specs.Prelude.{Bool, List, ℕ, length}
+use Rattle.std.specs.Prelude.{List, ℕ, length, Option}
 use Prim.{Unit, tt}
 use Rattle.paper.specs.declared.numbers.FoldSet.{FoldSet}
 use Rattle.paper.specs.Sets.{choose, entry}
 use Rattle.paper.specs.Paths.{paths, split_on_path, path_of}
-use Rattle.paper.specs.Handed.{handed, no_folds}
-use Rattle.paper.specs.Places.{place_of, has_next, next_folds}
-use Rattle.paper.specs.Refusals.{Outcome, done, refused}
+use Rattle.paper.specs.Handed.{handed}
+use Rattle.paper.specs.Places.{place_of, next_folds}
+use Rattle.paper.specs.Refusals.{Outcome}
 use Rattle.paper.specs.Checks.{checked, lent, numbers_checks, split_checks, set_checks, path_checks, whole_path_checks}
 
 -- How many splits, and how many paths.
@@ -17,27 +17,17 @@ split_count N k = checked (numbers_checks N k) (choose N k)
 abbrev pub path_count : ℕ → ℕ → Outcome ℕ
 path_count N k = checked (numbers_checks N k) (paths N k)
 
--- The folds of split s: the outcome, and what is handed out beside it. Beside a refusal there are none.
-abbrev pub split_folds : ℕ → ℕ → ℕ → Outcome (Unit {0})
-split_folds N k s = checked (split_checks N k s) tt
-
-abbrev pub folds_beside : {A : Type 0} → Outcome A → FoldSet → FoldSet
-folds_beside (done a) set = set
-folds_beside (refused number carried) set = no_folds
-
-abbrev pub split_handed : ℕ → ℕ → ℕ → FoldSet
-split_handed N k s = folds_beside (split_folds N k s) (handed (entry N k s))
+-- The folds of split s, handed out.
+abbrev pub split_folds : ℕ → ℕ → ℕ → Outcome FoldSet
+split_folds N k s = checked (split_checks N k s) (handed (entry N k s))
 
 -- The number of a fold set.
 abbrev pub set_number : ℕ → ℕ → List ℕ → Outcome ℕ
 set_number N k set = checked (set_checks N k set) (place_of N k set)
 
--- Whether there is a set after this one, and the set that is handed out.
-abbrev pub set_next : ℕ → ℕ → List ℕ → Outcome Bool
-set_next N k set = checked (set_checks N k set) (has_next N k set)
-
-abbrev pub next_handed : ℕ → ℕ → List ℕ → FoldSet
-next_handed N k set = folds_beside (set_next N k set) (next_folds N k set)
+-- The set after this one, handed out; none after the last.
+abbrev pub set_next : ℕ → ℕ → List ℕ → Outcome (Option FoldSet)
+set_next N k set = checked (set_checks N k set) (next_folds N k set)
 
 -- The split that path p takes for fold g.
 abbrev pub path_split : ℕ → ℕ → ℕ → ℕ → Outcome ℕ

@@ -5,13 +5,13 @@
 pub mod answers;
 pub mod numbers;
 pub mod refusal;
+pub mod rule;
 pub mod settings;
 pub mod span;
 
-pub use answers::{
-    Counted, Counts, Marked, Next, NextSet, OverlapCount, Overlaps, Placed, SplitFolds, Written,
-};
+pub use answers::{Counts, OverlapCount};
 pub use numbers::{FoldNumber, FoldSet, PathNumber, SplitNumber};
 pub use refusal::Refusal;
-pub use settings::Settings;
+pub use rule::Rule;
+pub use settings::{Rolling, Settings};
 pub use span::Span;

@@ -21,9 +21,19 @@ impl Settings {
     pub fn new(folds: usize, embargo: f64) -> Self
         ensures { result ≡ record { folds = folds; embargo = embargo } }
     {
-        Settings {
-            folds: folds,
-            embargo: embargo,
-        }
+        Settings { folds, embargo }
     }
+}
+
+// What the rolling layout is made with. Its source is `WalkForwardConfig` of backtesting_engine.rs.
+#[derive(Clone, Copy)]
+pub struct Rolling {
+    // a, the first row that is tested.
+    pub min_train_size: usize,
+    // How many rows each split tests.
+    pub test_size: usize,
+    // How many rows one split begins behind the other.
+    pub step_size: usize,
+    // The embargo as a fraction of all rows, which is checked and has no effect: all that trains stands before the test rows.
+    pub pct_embargo: f64,
 }

@@ -1,50 +1,84 @@
-// The kinds of lines by number, in the order in which they are reported. 0 is a line of no kind.
-use std::io;
-use std::io::Write;
-
-// A kind of one letter has a tab for its second.
-fn name_byte(i: usize) -> u8 {
-    let names = b"?\tT\tKWCWWFKPCPRPCFPAPCNKTTE\tOCJN";
-    if i < 32 { names[i] } else { 0 }
+// The kinds of lines.
+#[derive(Clone, Copy, PartialEq, Eq)]
+pub enum Kind {
+    Table,
+    KfoldWindow,
+    CpcvWindow,
+    WalkForward,
+    KfoldPair,
+    CpcvPair,
+    Rolling,
+    FoldsOfSplit,
+    WholePath,
+    PathCount,
+    PlainFold,
+    TrainTimes,
+    WholeRun,
+    Unknown,
+    OverlapCount,
+    Joining,
 }
 
-// The kind whose name these two bytes are.
-fn named(a: u8, b: u8) -> usize {
-    let mut i = 1;
-    while i < 16 {
-        if name_byte(2 * i) == a {
-            if name_byte(2 * i + 1) == b {
-                return i;
-            }
+// In the order in which they are reported. No call answers the last two.
+pub const KINDS: [Kind; 16] = [
+    Kind::Table,
+    Kind::KfoldWindow,
+    Kind::CpcvWindow,
+    Kind::WalkForward,
+    Kind::KfoldPair,
+    Kind::CpcvPair,
+    Kind::Rolling,
+    Kind::FoldsOfSplit,
+    Kind::WholePath,
+    Kind::PathCount,
+    Kind::PlainFold,
+    Kind::TrainTimes,
+    Kind::WholeRun,
+    Kind::Unknown,
+    Kind::OverlapCount,
+    Kind::Joining,
+];
+
+impl Kind {
+    pub fn name(self) -> &'static str {
+        match self {
+            Kind::Table => "T",
+            Kind::KfoldWindow => "KW",
+            Kind::CpcvWindow => "CW",
+            Kind::WalkForward => "WF",
+            Kind::KfoldPair => "KP",
+            Kind::CpcvPair => "CP",
+            Kind::Rolling => "RP",
+            Kind::FoldsOfSplit => "CF",
+            Kind::WholePath => "PA",
+            Kind::PathCount => "PC",
+            Kind::PlainFold => "NK",
+            Kind::TrainTimes => "TT",
+            Kind::WholeRun => "E",
+            Kind::Unknown => "?",
+            Kind::OverlapCount => "OC",
+            Kind::Joining => "JN",
         }
-        i += 1;
     }
-    0
-}
 
-// The kind that a line opens with.
-pub fn of_line(line: &[u8]) -> usize {
-    if line.len() < 3 {
-        return 0;
-    }
-    if line[1] == b'\t' {
-        return named(line[0], b'\t');
-    }
-    if line[2] == b'\t' {
-        named(line[0], line[1])
-    } else {
-        0
-    }
-}
-
-pub fn show_name(rt: &impl Print, kind: usize) -> io::Result<()> {
-    if kind < 16 {
-        let name = [name_byte(2 * kind), name_byte(2 * kind + 1)];
-        let mut out = io::writer(rt);
-        if name[1] == b'\t' {
-            return out.write_all(&name[0..1]);
+    // The kind that a line opens with.
+    pub fn of_line(line: &[u8]) -> Kind {
+        match line {
+            [_, b'\t', _, ..] => Kind::named(&line[..1]),
+            [_, _, b'\t', ..] => Kind::named(&line[..2]),
+            _ => Kind::Unknown,
         }
-        return out.write_all(&name);
     }
-    Ok(())
+
+    fn named(name: &[u8]) -> Kind {
+        KINDS
+            .iter()
+            .copied()
+            .find(|kind| kind.name().as_bytes() == name)
+            .unwrap_or(Kind::Unknown)
+    }
+
+    pub fn is_skipped(self) -> bool {
+        matches!(self, Kind::OverlapCount | Kind::Joining)
+    }
 }

@@ -13,125 +13,82 @@ mod tables;
 mod tally;
 
 use answers::Verdict;
+use kinds::Kind;
+use reads::Cursor;
 use std::io;
 use std::io::Read;
+use tables::{Spans, Table};
+use tally::Tallies;
 
-fn about_table(
-    kind: usize,
-    line: &[u8],
-    starts: &[i64],
-    ends: &[i64],
-    marks: &mut [u8],
-) -> Verdict {
+fn question(kind: Kind, line: &mut Cursor, spans: Spans, marks: &mut [u8]) -> Option<Verdict> {
     match kind {
-        2 => marked::kfold_window(line, starts, ends, marks),
-        3 => marked::cpcv_window(line, starts, ends, marks),
-        4 => marked::walk_forward(line, starts, ends, marks),
-        5 => marked::kfold_pair(line, starts, ends, marks),
-        6 => marked::cpcv_pair(line, starts, ends, marks),
-        7 => marked::rolling(line, starts, ends, marks),
-        12 => answers::plain(listed::train_times(line, starts, ends, marks)),
-        _ => answers::plain(false),
+        Kind::KfoldWindow => marked::kfold_window(line, spans, marks),
+        Kind::CpcvWindow => marked::cpcv_window(line, spans, marks),
+        Kind::WalkForward => marked::walk_forward(line, spans, marks),
+        Kind::KfoldPair => marked::kfold_pair(line, spans, marks),
+        Kind::CpcvPair => marked::cpcv_pair(line, spans, marks),
+        Kind::Rolling => marked::rolling(line, spans, marks),
+        _ => Some(Verdict::Line(plain(kind, line, spans, marks).is_some())),
     }
 }
 
-fn about_numbers(kind: usize, line: &[u8]) -> bool {
+// The questions that are not about a split of the table.
+fn plain(kind: Kind, line: &mut Cursor, spans: Spans, marks: &mut [u8]) -> Option<()> {
     match kind {
-        8 => listed::folds_of_split(line),
-        9 => listed::whole_path(line),
-        10 => listed::path_count(line),
-        11 => listed::naive(line),
-        14 | 15 => true,
-        _ => false,
+        Kind::FoldsOfSplit => listed::folds_of_split(line),
+        Kind::WholePath => listed::whole_path(line),
+        Kind::PathCount => listed::path_count(line),
+        Kind::PlainFold => listed::plain_fold(line),
+        Kind::TrainTimes => listed::train_times(line, spans, marks),
+        Kind::OverlapCount | Kind::Joining => Some(()),
+        _ => None,
     }
 }
 
-fn needs_table(kind: usize) -> bool {
-    match kind {
-        2..=7 | 12 => true,
-        _ => false,
-    }
-}
-
-fn question(kind: usize, line: &[u8], rows: usize, starts: &[i64], ends: &[i64]) -> Verdict {
-    if !needs_table(kind) {
-        return answers::plain(about_numbers(kind, line));
-    }
-    if rows > 256 {
-        return answers::plain(false);
-    }
-    if rows > starts.len() {
-        return answers::plain(false);
-    }
-    if rows > ends.len() {
-        return answers::plain(false);
-    }
-    let mut room = [0u8; 256];
-    let marks = &mut room[0..rows];
-    let s = &starts[0..rows];
-    let e = &ends[0..rows];
-    about_table(kind, line, s, e, marks)
-}
-
-fn note_question(
-    kind: usize,
-    line: &[u8],
+#[derive(Drop)]
+struct Replay {
+    table: Table,
+    tallies: Tallies,
     number: u64,
-    rows: usize,
-    starts: &[i64; 256],
-    ends: &[i64; 256],
-    tally: &mut [u64; 64],
-) {
-    let v = question(kind, line, rows, starts, ends);
-    if v.run {
-        tally::note(tally, 13, v.same, number);
-    } else {
-        tally::note(tally, kind, v.same, number);
-    }
 }
 
-// One line; the answer is how many rows the table has from here on.
-fn one(
-    line: &[u8],
-    number: u64,
-    rows: usize,
-    starts: &mut [i64; 256],
-    ends: &mut [i64; 256],
-    tally: &mut [u64; 64],
-) -> usize {
-    let kind = kinds::of_line(line);
-    if kind != 1 {
-        note_question(kind, line, number, rows, starts, ends, tally);
-        return rows;
+impl Replay {
+    fn new() -> Replay {
+        Replay {
+            table: Table::new(),
+            tallies: Tallies::new(),
+            number: 0,
+        }
     }
-    let table = tables::read(line, 2, starts, ends);
-    tally::note(tally, 1, reads::ended(line, table.at), number);
-    table.rows
-}
 
-// The nearest to x from low to high.
-fn clamp(x: usize, low: usize, high: usize) -> usize
-    requires { low ≤ high }
-    ensures { (low ≤ result) × (result ≤ high) }
-{
-    if x < low {
-        return low;
+    fn all(text: &[u8]) -> Replay {
+        let mut replay = Replay::new();
+        for line in text.split_inclusive(|byte| *byte == b'\n') {
+            replay.line(line.strip_suffix(b"\n").unwrap_or(line));
+        }
+        replay
     }
-    if x > high {
-        return high;
-    }
-    x
-}
 
-fn replay(text: &[u8], starts: &mut [i64; 256], ends: &mut [i64; 256], tally: &mut [u64; 64]) {
-    let mut rows = 0;
-    let mut number: u64 = 0;
-    let mut at = 0;
-    while at < text.len() {
-        let end = clamp(fields::find(text, at, b'\n'), at, text.len());
-        number = std::num::wrapping_add_u64(number, 1);
-        rows = one(&text[at..end], number, rows, starts, ends, tally);
-        at = end + 1;
+    fn line(&mut self, line: &[u8]) {
+        self.number = self.number.wrapping_add(1);
+        let kind = Kind::of_line(line);
+        let mut fields = Cursor::new(line, kind.name().len() + 1);
+        let (kind, same) = match self.verdict(kind, &mut fields) {
+            Verdict::Line(same) => (kind, same),
+            Verdict::Run(same) => (Kind::WholeRun, same),
+        };
+        self.tallies.note(kind, same, self.number);
+    }
+
+    // A table is read, and is there for the lines after it.
+    fn verdict(&mut self, kind: Kind, line: &mut Cursor) -> Verdict {
+        if kind == Kind::Table {
+            let read = self.table.read(line);
+            return Verdict::Line(read.is_some() && line.ended().is_some());
+        }
+        let mut room = [0u8; 256];
+        let marks = &mut room[..self.table.rows()];
+        question(kind, line, self.table.spans(), marks).unwrap_or(Verdict::Line(false))
     }
 }
 
@@ -157,12 +114,9 @@ fn read_full(rt: &impl Input, buf: &mut [u8]) -> io::Result<usize>
 }
 
 fn main(rt: HostRuntime) -> io::Result<()> {
-    let mut starts = [0i64; 256];
-    let mut ends = [0i64; 256];
-    let mut tally = [0u64; 64];
     let mut buf = room();
     let n = read_full(&rt, &mut buf)?;
-    replay(&buf[..n], &mut starts, &mut ends, &mut tally);
-    tally::show(&rt, &tally)?;
-    tally::show_skipped(&rt, &tally)
+    let told = Replay::all(&buf[..n]).tallies;
+    told.show(&rt)?;
+    told.show_skipped(&rt)
 }

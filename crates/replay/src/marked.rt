@@ -1,180 +1,177 @@
 // The questions that mark a split of the table. Where the engine refused a whole run, some split of it must have no row to
 // train on: the splits are asked for one after the other, up to the first that is refused.
-use crate::answers::Verdict;
-use crate::{answers, reads};
-use paper::{Marked, Settings, SplitNumber};
+use crate::answers::{self, Verdict};
+use crate::reads::Cursor;
+use crate::tables::Spans;
+use paper::{Counts, Refusal, Rolling, Rule, Settings, SplitNumber};
+
+// What a call answers on marks.
+type Answer = Result<Counts, Refusal>;
 
 // More splits than a recorded run has.
-const MOST: u64 = 1000000;
+const MOST: u64 = 1_000_000;
 
-pub fn kfold_window(line: &[u8], starts: &[i64], ends: &[i64], marks: &mut [u8]) -> Verdict {
-    let folds = reads::number(line, 3);
-    let x = reads::fraction(line, folds.at);
-    let split = reads::number(line, x.at);
-    let at = reads::expect_letter(line, split.at, b'=');
-    let settings = Settings::new(folds.value as usize, x.value);
-    let m = mark_calls::kfold_window(starts, ends, settings, SplitNumber(split.value), marks);
-    answers::window(line, at, m, marks)
+fn window(line: &mut Cursor, answer: Answer, marks: &[u8]) -> Verdict {
+    let told = match answer {
+        Ok(counts) => answers::window(line, counts, marks),
+        Err(r) => answers::refused(line, r),
+    };
+    Verdict::Line(told.is_some())
 }
 
-pub fn kfold_pair(line: &[u8], starts: &[i64], ends: &[i64], marks: &mut [u8]) -> Verdict {
-    let folds = reads::number(line, 3);
-    let x = reads::fraction(line, folds.at);
-    let split = reads::number(line, x.at);
-    let at = reads::expect_letter(line, split.at, b'=');
-    let settings = Settings::new(folds.value as usize, x.value);
-    let m = mark_calls::kfold_pair(starts, ends, settings, SplitNumber(split.value), marks);
-    let v = answers::pair(line, at, m, marks);
-    if v.run {
-        return answers::run_of(v, some_kfold(starts, ends, settings, marks));
+// The engine refused the whole run before it came to the split asked for, which may have a result, no row to train on, or a
+// number past the end.
+fn of_run(answer: Answer) -> bool {
+    match answer {
+        Ok(_) | Err(Refusal::NoSuchNumber | Refusal::EmptyTrain) => true,
+        Err(_) => false,
     }
-    v
 }
 
-fn some_kfold(starts: &[i64], ends: &[i64], settings: Settings, marks: &mut [u8]) -> bool {
-    let mut s = 0;
-    while s < MOST {
-        let r = answers::refusal(mark_calls::kfold_pair(
-            starts,
-            ends,
-            settings,
-            SplitNumber(s),
-            marks,
-        ));
-        if r != 0 {
-            return r == 17;
+// Whether the first split that is refused has no row to train on.
+fn some_empty<F: Fn(u64, &mut [u8]) -> Answer>(ask: F, marks: &mut [u8]) -> bool
+    requires { F.IsAlwaysCallable ask }
+{
+    for split in 0..MOST {
+        if let Err(r) = ask(split, marks) {
+            return matches!(r, Refusal::EmptyTrain);
         }
-        s += 1;
     }
     false
 }
 
-// N, k or m, the fraction and the split of the lines that have all four.
+fn pair<F: Fn(u64, &mut [u8]) -> Answer>(
+    line: &mut Cursor,
+    split: u64,
+    ask: F,
+    marks: &mut [u8],
+) -> Verdict
+    requires { F.IsAlwaysCallable ask }
+{
+    let answer = ask(split, marks);
+    let mut whole = *line;
+    if answers::whole_run(&mut whole).is_some() {
+        return Verdict::Run(of_run(answer) && some_empty(ask, marks));
+    }
+    let told = match answer {
+        Ok(counts) => answers::pair(line, counts, marks),
+        Err(r) => answers::refused(line, r),
+    };
+    Verdict::Line(told.is_some())
+}
+
+// N, the fraction and the split.
 #[derive(Clone, Copy)]
-struct Asked {
-    folds: usize,
+struct Kfold {
+    settings: Settings,
+    split: SplitNumber,
+}
+
+impl Kfold {
+    fn read(line: &mut Cursor) -> Option<Kfold> {
+        let folds = line.count()?;
+        let x = line.read()?;
+        let split = SplitNumber(line.read()?);
+        line.expect(b'=')?;
+        let settings = Settings::new(folds, x);
+        Some(Kfold { settings, split })
+    }
+
+    fn ask(self, rule: Rule, spans: Spans, split: u64, marks: &mut [u8]) -> Answer {
+        let split = SplitNumber(split);
+        mark_calls::kfold(rule, spans.starts, spans.ends, self.settings, split, marks)
+    }
+}
+
+pub fn kfold_window(line: &mut Cursor, spans: Spans, marks: &mut [u8]) -> Option<Verdict> {
+    let q = Kfold::read(line)?;
+    let answer = q.ask(Rule::Window, spans, q.split.0, marks);
+    Some(window(line, answer, marks))
+}
+
+pub fn kfold_pair(line: &mut Cursor, spans: Spans, marks: &mut [u8]) -> Option<Verdict> {
+    let q = Kfold::read(line)?;
+    let ask = |split: u64, out: &mut [u8]| q.ask(Rule::Pair, spans, split, out);
+    Some(pair(line, q.split.0, ask, marks))
+}
+
+// N, k or m, the fraction and the split.
+#[derive(Clone, Copy)]
+struct Cpcv {
+    settings: Settings,
     k: usize,
-    x: f64,
-    split: u64,
-    at: usize,
+    split: SplitNumber,
 }
 
-fn read_asked(line: &[u8]) -> Asked {
-    let folds = reads::number(line, 3);
-    let k = reads::number(line, folds.at);
-    let x = reads::fraction(line, k.at);
-    let split = reads::number(line, x.at);
-    Asked {
-        folds: folds.value as usize,
-        k: k.value as usize,
-        x: x.value,
-        split: split.value,
-        at: reads::expect_letter(line, split.at, b'='),
+impl Cpcv {
+    fn read(line: &mut Cursor) -> Option<Cpcv> {
+        let folds = line.count()?;
+        let k = line.count()?;
+        let x = line.read()?;
+        let split = SplitNumber(line.read()?);
+        line.expect(b'=')?;
+        let settings = Settings::new(folds, x);
+        Some(Cpcv { settings, k, split })
     }
-}
 
-pub fn cpcv_window(line: &[u8], starts: &[i64], ends: &[i64], marks: &mut [u8]) -> Verdict {
-    let q = read_asked(line);
-    let settings = Settings::new(q.folds, q.x);
-    let m = mark_calls::cpcv_window(starts, ends, settings, q.k, SplitNumber(q.split), marks);
-    answers::window(line, q.at, m, marks)
-}
-
-pub fn cpcv_pair(line: &[u8], starts: &[i64], ends: &[i64], marks: &mut [u8]) -> Verdict {
-    let q = read_asked(line);
-    let settings = Settings::new(q.folds, q.x);
-    let m = mark_calls::cpcv_pair(starts, ends, settings, q.k, SplitNumber(q.split), marks);
-    let v = answers::pair(line, q.at, m, marks);
-    if v.run {
-        return answers::run_of(v, some_cpcv(starts, ends, settings, q.k, marks));
-    }
-    v
-}
-
-fn some_cpcv(starts: &[i64], ends: &[i64], settings: Settings, k: usize, marks: &mut [u8]) -> bool {
-    let mut s = 0;
-    while s < MOST {
-        let r = answers::refusal(mark_calls::cpcv_pair(
-            starts,
-            ends,
-            settings,
-            k,
-            SplitNumber(s),
+    fn ask(self, rule: Rule, spans: Spans, split: u64, marks: &mut [u8]) -> Answer {
+        let split = SplitNumber(split);
+        mark_calls::cpcv(
+            rule,
+            spans.starts,
+            spans.ends,
+            self.settings,
+            self.k,
+            split,
             marks,
-        ));
-        if r != 0 {
-            return r == 17;
-        }
-        s += 1;
-    }
-    false
-}
-
-pub fn walk_forward(line: &[u8], starts: &[i64], ends: &[i64], marks: &mut [u8]) -> Verdict {
-    let q = read_asked(line);
-    let settings = Settings::new(q.folds, q.x);
-    let m = mark_calls::walk_forward(starts, ends, settings, q.k, SplitNumber(q.split), marks);
-    answers::window(line, q.at, m, marks)
-}
-
-// What a rolling run is asked with.
-#[derive(Clone, Copy)]
-struct Rolled {
-    a: usize,
-    size: usize,
-    step: usize,
-    x: f64,
-    split: u64,
-    at: usize,
-}
-
-fn read_rolled(line: &[u8]) -> Rolled {
-    let a = reads::number(line, 3);
-    let size = reads::number(line, a.at);
-    let step = reads::number(line, size.at);
-    let x = reads::fraction(line, step.at);
-    let split = reads::number(line, x.at);
-    Rolled {
-        a: a.value as usize,
-        size: size.value as usize,
-        step: step.value as usize,
-        x: x.value,
-        split: split.value,
-        at: reads::expect_letter(line, split.at, b'='),
+        )
     }
 }
 
-fn roll(q: Rolled, s: u64, starts: &[i64], ends: &[i64], marks: &mut [u8]) -> Marked {
-    mark_calls::rolling(
-        starts,
-        ends,
-        q.x,
-        q.a,
-        q.size,
-        q.step,
-        SplitNumber(s),
+pub fn cpcv_window(line: &mut Cursor, spans: Spans, marks: &mut [u8]) -> Option<Verdict> {
+    let q = Cpcv::read(line)?;
+    let answer = q.ask(Rule::Window, spans, q.split.0, marks);
+    Some(window(line, answer, marks))
+}
+
+pub fn cpcv_pair(line: &mut Cursor, spans: Spans, marks: &mut [u8]) -> Option<Verdict> {
+    let q = Cpcv::read(line)?;
+    let ask = |split: u64, out: &mut [u8]| q.ask(Rule::Pair, spans, split, out);
+    Some(pair(line, q.split.0, ask, marks))
+}
+
+pub fn walk_forward(line: &mut Cursor, spans: Spans, marks: &mut [u8]) -> Option<Verdict> {
+    let q = Cpcv::read(line)?;
+    let answer = mark_calls::walk_forward(
+        spans.starts,
+        spans.ends,
+        q.settings,
+        q.k,
+        q.split,
         marks,
-    )
+    );
+    Some(window(line, answer, marks))
 }
 
-pub fn rolling(line: &[u8], starts: &[i64], ends: &[i64], marks: &mut [u8]) -> Verdict {
-    let q = read_rolled(line);
-    let m = roll(q, q.split, starts, ends, marks);
-    let v = answers::pair(line, q.at, m, marks);
-    if v.run {
-        return answers::run_of(v, some_rolled(q, starts, ends, marks));
-    }
-    v
+fn read_rolling(line: &mut Cursor) -> Option<Rolling> {
+    let min_train_size = line.count()?;
+    let test_size = line.count()?;
+    let step_size = line.count()?;
+    let pct_embargo = line.read()?;
+    Some(Rolling {
+        min_train_size,
+        test_size,
+        step_size,
+        pct_embargo,
+    })
 }
 
-fn some_rolled(q: Rolled, starts: &[i64], ends: &[i64], marks: &mut [u8]) -> bool {
-    let mut s = 0;
-    while s < MOST {
-        let r = answers::refusal(roll(q, s, starts, ends, marks));
-        if r != 0 {
-            return r == 17;
-        }
-        s += 1;
-    }
-    false
+pub fn rolling(line: &mut Cursor, spans: Spans, marks: &mut [u8]) -> Option<Verdict> {
+    let layout = read_rolling(line)?;
+    let split = line.read()?;
+    line.expect(b'=')?;
+    let ask = |split: u64, out: &mut [u8]| {
+        mark_calls::rolling(spans.starts, spans.ends, layout, SplitNumber(split), out)
+    };
+    Some(pair(line, split, ask, marks))
 }

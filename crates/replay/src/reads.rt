@@ -1,77 +1,67 @@
-// Fields of a line, one after the other. Each function answers the place of the next field. A field that is not of the form,
-// or not what is expected, answers a place that no line has, and every read from there on fails too: a caller tests the
-// place once, behind the last field.
-use fields::{DecimalField, DoubleField, LetterField};
-
-pub const NOWHERE: usize = 0xffff_ffff_ffff_ffff;
+// The fields of a line, one after the other (01, "Report program", for their form). A field that is not of the form, or not what
+// is expected, is `None`, and the caller gives up on the line.
+use text::Spelled;
 
 #[derive(Clone, Copy)]
-pub struct Read {
-    pub value: u64,
-    pub at: usize,
+pub struct Cursor<'a> {
+    line: &'a [u8],
+    at: usize,
 }
 
-#[derive(Clone, Copy)]
-pub struct ReadFraction {
-    pub value: f64,
-    pub at: usize,
-}
-
-pub fn number(line: &[u8], at: usize) -> Read {
-    match fields::decimal_at(line, at) {
-        DecimalField::Is(n, next) => Read { value: n, at: next },
-        DecimalField::Bad => Read {
-            value: 0,
-            at: NOWHERE,
-        },
+impl<'a> Cursor<'a> {
+    pub fn new(line: &'a [u8], at: usize) -> Cursor<'a> {
+        Cursor { line, at }
     }
-}
 
-pub fn fraction(line: &[u8], at: usize) -> ReadFraction {
-    match fields::double_at(line, at) {
-        DoubleField::Is(x, next) => ReadFraction { value: x, at: next },
-        DoubleField::Bad => ReadFraction {
-            value: 0.0,
-            at: NOWHERE,
-        },
+    // The bytes of the next field.
+    pub fn bytes(&mut self) -> Option<&'a [u8]> {
+        let end = fields::find(self.line, self.at, b'\t');
+        let field = self.line.get(self.at..end)?;
+        self.at = end.checked_add(1)?;
+        Some(field)
     }
-}
 
-// The field is this decimal.
-pub fn expect(line: &[u8], at: usize, n: u64) -> usize {
-    match fields::decimal_at(line, at) {
-        DecimalField::Is(m, next) => { if m == n { next } else { NOWHERE } }
-        DecimalField::Bad => NOWHERE,
+    // What the next field spells.
+    pub fn read<T: Spelled>(&mut self) -> Option<T> {
+        let (value, next) = fields::field_at(self.line, self.at)?;
+        self.at = next;
+        Some(value)
     }
-}
 
-// The field is this byte.
-pub fn expect_letter(line: &[u8], at: usize, byte: u8) -> usize {
-    match fields::letter_at(line, at) {
-        LetterField::Is(c, next) => { if c == byte { next } else { NOWHERE } }
-        LetterField::Bad => NOWHERE,
+    pub fn count(&mut self) -> Option<usize> {
+        usize::try_from(self.read::<u64>()?).ok()
     }
-}
 
-// The field is this double; one NaN is as good as another.
-pub fn expect_fraction(line: &[u8], at: usize, x: f64) -> usize {
-    match fields::double_at(line, at) {
-        DoubleField::Is(y, next) => { if same_fraction(x, y) { next } else { NOWHERE } }
-        DoubleField::Bad => NOWHERE,
+    // The next field spells this; else the cursor stays.
+    pub fn expect<T: Spelled + PartialEq + Copy>(&mut self, wanted: T) -> Option<()> {
+        let (value, next) = fields::field_at::<T>(self.line, self.at)?;
+        if value != wanted {
+            return None;
+        }
+        self.at = next;
+        Some(())
     }
-}
 
-fn same_fraction(x: f64, y: f64) -> bool {
-    if x == y {
-        return true;
+    pub fn expect_count(&mut self, n: usize) -> Option<()> {
+        self.expect(n as u64)
     }
-    if x == x {
-        return false;
-    }
-    y != y
-}
 
-// No field is left.
-pub fn ended(line: &[u8], at: usize) -> bool {
-    at == line.len() + 1
+    // One NaN is as good as another.
+    pub fn expect_fraction(&mut self, wanted: f64) -> Option<()> {
+        let value: f64 = self.read()?;
+        if value == wanted || (value.is_nan() && wanted.is_nan()) {
+            Some(())
+        } else {
+            None
+        }
+    }
+
+    // No field is left.
+    pub fn ended(&self) -> Option<()> {
+        if self.at == self.line.len() + 1 {
+            Some(())
+        } else {
+            None
+        }
+    }
 }

@@ -1,52 +1,60 @@
 // Spans as a line tells them: how many, and each one's start and end.
-use crate::reads;
-use fields::SignedField;
+ghost use Rattle.std.specs.Prelude.{◌≤◌};
 
+use crate::reads::Cursor;
+
+// Starts and ends as the calls take them.
 #[derive(Clone, Copy)]
+pub struct Spans<'a> {
+    pub starts: &'a [i64],
+    pub ends: &'a [i64],
+}
+
+#[derive(Drop)]
 pub struct Table {
-    pub rows: usize,
-    pub at: usize,
-}
-
-// At most 256 spans.
-pub fn read(line: &[u8], at: usize, starts: &mut [i64; 256], ends: &mut [i64; 256]) -> Table {
-    let n = reads::number(line, at);
-    let rows = n.value as usize;
-    if rows > 256 {
-        return Table {
-            rows: 0,
-            at: reads::NOWHERE,
-        };
-    }
-    Table {
-        rows: rows,
-        at: spans(line, n.at, rows, starts, ends),
-    }
-}
-
-fn spans(
-    line: &[u8],
-    at: usize,
+    starts: [i64; 256],
+    ends: [i64; 256],
     rows: usize,
-    starts: &mut [i64; 256],
-    ends: &mut [i64; 256],
-) -> usize {
-    let mut at = at;
-    let mut i = 0;
-    while i < rows {
-        if i >= 256 {
-            return reads::NOWHERE;
+    ghost in_room: { rows ≤ 256 },
+}
+
+impl Table {
+    pub fn new() -> Table {
+        Table {
+            starts: [0; 256],
+            ends: [0; 256],
+            rows: 0,
         }
-        let SignedField::Is(s, middle) = fields::signed_at(line, at) else {
-            return reads::NOWHERE;
-        };
-        let SignedField::Is(e, next) = fields::signed_at(line, middle) else {
-            return reads::NOWHERE;
-        };
-        starts[i] = s;
-        ends[i] = e;
-        at = next;
-        i += 1;
     }
-    at
+
+    // At most 256 spans. Where the line is not of the form, the spans up to there are read, and behind them stand older ones.
+    pub fn read(&mut self, line: &mut Cursor) -> Option<()> {
+        self.rows = 0;
+        let rows = line.count()?;
+        if rows > 256 {
+            return None;
+        }
+        self.rows = rows;
+        for i in 0..rows {
+            let start = line.read()?;
+            let end = line.read()?;
+            self.starts[i] = start;
+            self.ends[i] = end;
+        }
+        Some(())
+    }
+
+    // As many as there are marks to ask for.
+    pub fn rows(&self) -> usize
+        ensures { result ≤ 256 }
+    {
+        self.rows
+    }
+
+    pub fn spans(&self) -> Spans<'_> {
+        Spans {
+            starts: &self.starts[..self.rows],
+            ends: &self.ends[..self.rows],
+        }
+    }
 }

@@ -1,70 +1,74 @@
 // For each kind, how many lines agree, how many differ, and which line is the first that differs.
-use crate::kinds;
+use crate::kinds::{KINDS, Kind};
 use std::io;
 
-fn get(tally: &[u64; 64], i: usize) -> u64 {
-    if i < 64 { tally[i] } else { 0 }
+#[derive(Clone, Copy)]
+struct Tally {
+    kind: Kind,
+    agree: u64,
+    differ: u64,
+    first: Option<u64>,
 }
 
-fn put(tally: &mut [u64; 64], i: usize, n: u64) {
-    if i < 64 {
-        tally[i] = n;
+impl Tally {
+    fn new(kind: Kind) -> Tally {
+        Tally {
+            kind,
+            agree: 0,
+            differ: 0,
+            first: None,
+        }
+    }
+
+    fn note(&mut self, same: bool, number: u64) {
+        if same {
+            self.agree = self.agree.wrapping_add(1);
+        } else {
+            self.differ = self.differ.wrapping_add(1);
+            self.first = self.first.or(Some(number));
+        }
     }
 }
 
-pub fn note(tally: &mut [u64; 64], kind: usize, same: bool, number: u64) {
-    if kind > 15 {
-        return;
-    }
-    if same {
-        put(
-            tally,
-            4 * kind,
-            std::num::wrapping_add_u64(get(tally, 4 * kind), 1),
-        );
-        return;
-    }
-    let differ = get(tally, 4 * kind + 1);
-    if differ == 0 {
-        put(tally, 4 * kind + 2, number);
-    }
-    put(tally, 4 * kind + 1, std::num::wrapping_add_u64(differ, 1));
+#[derive(Drop)]
+pub struct Tallies {
+    of: [Tally; 16],
 }
 
-fn field(rt: &impl Print, n: u64) -> io::Result<()> {
-    print!(rt; "\t{n}")
-}
-
-fn end(rt: &impl Print) -> io::Result<()> {
-    print!(rt; "\n")
-}
-
-fn show_kind(rt: &impl Print, tally: &[u64; 64], kind: usize) -> io::Result<()> {
-    if kind > 15 {
-        return Ok(());
+impl Tallies {
+    pub fn new() -> Tallies {
+        Tallies {
+            of: KINDS.map(Tally::new),
+        }
     }
-    kinds::show_name(rt, kind)?;
-    field(rt, get(tally, 4 * kind))?;
-    field(rt, get(tally, 4 * kind + 1))?;
-    field(rt, get(tally, 4 * kind + 2))?;
-    end(rt)
-}
 
-// The kinds up to `E`, then the lines of no kind.
-pub fn show(rt: &impl Print, tally: &[u64; 64]) -> io::Result<()> {
-    let mut kind = 1;
-    while kind < 14 {
-        show_kind(rt, tally, kind)?;
-        kind += 1;
+    pub fn note(&mut self, kind: Kind, same: bool, number: u64) {
+        for tally in &mut self.of {
+            if tally.kind == kind {
+                tally.note(same, number);
+            }
+        }
     }
-    show_kind(rt, tally, 0)
-}
 
-// The kinds that no call answers.
-pub fn show_skipped(rt: &impl Print, tally: &[u64; 64]) -> io::Result<()> {
-    print!(rt; "skipped\tOC")?;
-    field(rt, get(tally, 56))?;
-    print!(rt; "\tJN")?;
-    field(rt, get(tally, 60))?;
-    end(rt)
+    pub fn show(&self, rt: &impl Print) -> io::Result<()> {
+        for t in &self.of {
+            if !t.kind.is_skipped() {
+                let name = t.kind.name();
+                let first = t.first.unwrap_or(0);
+                println!(rt; "{name}\t{}\t{}\t{first}", t.agree, t.differ)?;
+            }
+        }
+        Ok(())
+    }
+
+    pub fn show_skipped(&self, rt: &impl Print) -> io::Result<()> {
+        print!(rt; "skipped")?;
+        for t in &self.of {
+            if t.kind.is_skipped() {
+                let name = t.kind.name();
+                print!(rt; "\t{name}\t{}", t.agree)?;
+            }
+        }
+        print!(rt; "\n")
+    }
 }

@@ -1,1 +1,2 @@
 pub mod RollingStarts
+pub mod TableLaws

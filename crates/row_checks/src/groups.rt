@@ -1,88 +1,79 @@
 // The groups that the calls share: the table, the folds, the fraction, the spans.
-ghost use Rattle.std.specs.Prelude.{◌≡◌, ◌||◌, [], ◌∷◌, ltb, eqb, length};
-ghost use Rattle.paper.specs.Spans.{table};
-ghost use Rattle.paper.specs.Checks.{checked, lengths_differ, no_rows, too_many_rows, bad_folds, bad_fraction, bad_span, bad_minimum, zero_size};
-ghost use Rattle.checks.specs.Said.{said_checked, ◌then◌};
-ghost use Rattle.checks.specs.declared.checked.Checked.{Checked};
+ghost use Rattle.std.specs.Prelude.{◌≡◌, ◌||◌, [], ◌∷◌, ◌<◌, ltb, eqb, length, IfOk};
+ghost use Rattle.paper.specs.Checks.{checked, lengths_differ, no_rows, too_many_rows, bad_folds, bad_fraction, bad_span, bad_minimum, zero_size, nothing_to_test};
+ghost use Rattle.spans.specs.Tables.{table_of};
+ghost use Rattle.checks.specs.Said.{said_checked};
 
-use checks::Checked;
-use paper::{Refusal, Settings};
+use checks::numbers::outside;
+use checks::refuse_if;
+use paper::{Refusal, Rolling, Settings};
+use spans::Table;
 
-// 12: starts and ends differ in length.
-pub fn lengths(starts: &[i64], ends: &[i64]) -> Checked
-    ensures { said_checked result ≡ checked (lengths_differ starts.now ends.now ∷ []) tt }
+// 12: starts and ends differ in length. Where they do not, they are a table.
+pub fn lengths<'a>(starts: &'a [i64], ends: &'a [i64]) -> Result<Table<'a>, Refusal>
+    ensures answer { said_checked result ≡ checked (lengths_differ starts.now ends.now ∷ []) tt }
+    ensures passed { IfOk result (λ t. (t.starts.now ≡ starts.now) × (t.ends.now ≡ ends.now)) }
 {
-    Checked::Fine.refuse_if(starts.len() != ends.len(), Refusal::LengthsDiffer)
+    Table::new(starts, ends).ok_or(Refusal::LengthsDiffer)
 }
 
 // 1 and 10: no rows, too many rows.
-pub fn rows(found: Checked, n: usize) -> Checked
-    ensures { said_checked result ≡ (found then no_rows n ∷ too_many_rows n ∷ []) }
+pub fn rows(n: usize) -> Result<(), Refusal>
+    ensures { said_checked result ≡ checked (no_rows n ∷ too_many_rows n ∷ []) tt }
 {
-    found
-        .refuse_if(n == 0, Refusal::NoRows)
-        .refuse_if(Settings::MAX_ROWS < n, Refusal::TooManyRows)
+    refuse_if(n == 0, Refusal::NoRows)?;
+    refuse_if(Settings::MAX_ROWS < n, Refusal::TooManyRows)
 }
 
 fn bad_folds(folds: usize, n: usize) -> bool
     ensures { result ≡ (ltb folds 2 || ltb n folds) }
 {
-    if folds < 2 { true } else { n < folds }
+    folds < 2 || n < folds
 }
 
 // 2: N < 2 or N > n.
-pub fn folds(found: Checked, folds: usize, n: usize) -> Checked
-    ensures { said_checked result ≡ (found then bad_folds folds n ∷ []) }
+pub fn folds(folds: usize, n: usize) -> Result<(), Refusal>
+    ensures { said_checked result ≡ checked (bad_folds folds n ∷ []) tt }
 {
-    found.refuse_if(bad_folds(folds, n), Refusal::InvalidSplits(folds, n))
+    refuse_if(bad_folds(folds, n), Refusal::InvalidSplits(folds, n))
 }
 
 // 3: the fraction is not in [0,1).
-pub fn fraction(found: Checked, x: f64) -> Checked
-    ensures { said_checked result ≡ (found then bad_fraction x ∷ []) }
+pub fn fraction(x: f64) -> Result<(), Refusal>
+    ensures { said_checked result ≡ checked (bad_fraction x ∷ []) tt }
 {
-    found.refuse_if(!width::is_fraction(x), Refusal::InvalidEmbargo(x))
+    refuse_if(!width::is_fraction(x), Refusal::InvalidEmbargo(x))
 }
 
 // 4: some end before its start.
-pub fn spans(found: Checked, starts: &[i64], ends: &[i64]) -> Checked
-    requires { found ≡ Checked.Fine → length starts.now ≡ length ends.now }
-    ensures { said_checked result ≡ (found then bad_span (table starts.now ends.now) ∷ []) }
+pub fn spans(table: &Table) -> Result<(), Refusal>
+    ensures { said_checked result ≡ checked (bad_span (table_of table.now) ∷ []) tt }
 {
-    match found {
-        Checked::Bad(r) => Checked::Bad(r),
-        Checked::Fine => {
-            let row = scans::first_backward(starts, ends);
-            Checked::Fine.refuse_if(row < starts.len(), Refusal::InvalidInfoSet(row))
-        }
+    match scans::first_backward(table) {
+        Some(row) => Err(Refusal::InvalidInfoSet(row)),
+        None => Ok(()),
     }
 }
 
 // 7: m = 0 or m ≥ N.
-pub fn minimum(found: Checked, folds: usize, m: usize) -> Checked
-    ensures { said_checked result ≡ (found then bad_minimum folds m ∷ []) }
+pub fn minimum(folds: usize, m: usize) -> Result<(), Refusal>
+    ensures answer { said_checked result ≡ checked (bad_minimum folds m ∷ []) tt }
+    ensures passed { IfOk result (λ _. m < folds) }
 {
-    found.refuse_if(
-        checks::numbers::outside(folds, m),
-        Refusal::InvalidMinTrainFolds,
-    )
+    refuse_if(outside(folds, m), Refusal::InvalidMinTrainFolds)
 }
 
-fn zero_size(a: usize, size: usize, step: usize) -> bool
-    ensures { result ≡ (eqb a 0 || eqb size 0 || eqb step 0) }
+fn zero_size(layout: Rolling) -> bool
+    ensures { result ≡ (eqb layout.min_train_size 0 || eqb layout.test_size 0 || eqb layout.step_size 0) }
 {
-    if a == 0 {
-        true
-    } else if size == 0 {
-        true
-    } else {
-        step == 0
-    }
+    layout.min_train_size == 0 || layout.test_size == 0 || layout.step_size == 0
 }
 
-// 15: a size or step of the rolling layout is 0.
-pub fn sizes(found: Checked, a: usize, size: usize, step: usize) -> Checked
-    ensures { said_checked result ≡ (found then zero_size a size step ∷ []) }
+// 15 and 16: a size or step of the rolling layout is 0, or no row is left to test.
+pub fn sizes(layout: Rolling, n: usize) -> Result<(), Refusal>
+    ensures answer { said_checked result ≡ checked (zero_size layout.min_train_size layout.test_size layout.step_size ∷ nothing_to_test layout.min_train_size n ∷ []) tt }
+    ensures passed { IfOk result (λ _. (layout.min_train_size < n) × (0 < layout.step_size)) }
 {
-    found.refuse_if(zero_size(a, size, step), Refusal::ZeroSize)
+    refuse_if(zero_size(layout), Refusal::ZeroSize)?;
+    refuse_if(n <= layout.min_train_size, Refusal::NothingToTest)
 }

@@ -1,104 +1,103 @@
-// The chains of the calls, put together of the groups: all but 17, which stands behind the marking.
-ghost use Rattle.std.specs.Prelude.{◌≡◌, [], ◌∷◌, ◌++◌, ◌+◌, ◌-◌, ◌*◌, ◌≤◌, ◌<◌, leb, length};
-ghost use Rattle.paper.specs.Spans.{table};
+// The chains of the calls, put together of the groups: all but 17, which stands behind the marking. Each hands back the table
+// that it has made sure of.
+ghost use Rattle.std.specs.Prelude.{◌≡◌, [], ◌∷◌, ◌++◌, ◌+◌, ◌-◌, ◌*◌, ◌<◌, leb, length, IfOk};
 ghost use Rattle.paper.specs.Sets.{choose};
-ghost use Rattle.paper.specs.Checks.{checked, lengths_differ, no_rows, too_many_rows, bad_fraction, bad_span, bad_minimum, wrong_length, zero_size, nothing_to_test, no_such, table_checks, combination_checks, walk_forward_checks};
-ghost use Rattle.checks.specs.Said.{said_checked, ◌then◌};
+ghost use Rattle.paper.specs.Checks.{checked, lengths_differ, no_rows, too_many_rows, bad_span, wrong_length, zero_size, nothing_to_test, no_such, table_checks, combination_checks, walk_forward_checks};
+ghost use Rattle.spans.specs.Tables.{table_of};
+ghost use Rattle.checks.specs.Said.{said_checked};
 ghost use Rattle.row_checks.specs.RowsAlone.{rows_alone};
-ghost use Rattle.checks.specs.declared.checked.Checked.{Checked};
 
 use crate::groups;
-use checks::{Checked, numbers};
-use paper::{Refusal, Settings};
+use checks::{numbers, refuse_if};
+use paper::{Refusal, Rolling, Settings};
+use sets::Choice;
+use spans::Table;
 
 // 12, 1, 10: what every table is asked first.
-fn size(starts: &[i64], ends: &[i64]) -> Checked
-    ensures { said_checked result ≡ checked (lengths_differ starts.now ends.now ∷ no_rows (length starts.now) ∷ too_many_rows (length starts.now) ∷ []) tt }
+fn size<'a>(starts: &'a [i64], ends: &'a [i64]) -> Result<Table<'a>, Refusal>
+    ensures answer { said_checked result ≡ checked (lengths_differ starts.now ends.now ∷ no_rows (length starts.now) ∷ too_many_rows (length starts.now) ∷ []) tt }
+    ensures passed { IfOk result (λ t. (t.starts.now ≡ starts.now) × (t.ends.now ≡ ends.now)) }
 {
-    groups::rows(groups::lengths(starts, ends), starts.len())
+    let table = groups::lengths(starts, ends)?;
+    groups::rows(table.len())?;
+    Ok(table)
 }
 
 // 4 and 5: the spans, and the lent list.
-fn spans_and_room(found: Checked, starts: &[i64], ends: &[i64], room: usize) -> Checked
-    requires { found ≡ Checked.Fine → length starts.now ≡ length ends.now }
-    ensures { said_checked result ≡ (found then bad_span (table starts.now ends.now) ∷ wrong_length room (length starts.now) ∷ []) }
+fn spans_and_room(table: &Table, room: usize) -> Result<(), Refusal>
+    ensures { said_checked result ≡ checked (bad_span (table_of table.now) ∷ wrong_length room (length table.now.starts.now) ∷ []) tt }
 {
-    numbers::list_length(groups::spans(found, starts, ends), room, starts.len())
+    groups::spans(table)?;
+    numbers::list_length(room, table.len())
 }
 
 // 12, 1, 10, 2, 3, 4, 5: what every call on folds of rows is asked.
-pub fn folds_of_rows(starts: &[i64], ends: &[i64], settings: Settings, room: usize) -> Checked
-    ensures { said_checked result ≡ checked (table_checks starts.now ends.now settings room) tt }
+pub fn folds_of_rows<'a>(
+    starts: &'a [i64],
+    ends: &'a [i64],
+    settings: Settings,
+    room: usize,
+) -> Result<Table<'a>, Refusal>
+    ensures answer { said_checked result ≡ checked (table_checks starts.now ends.now settings room) tt }
+    ensures passed { IfOk result (λ t. (t.starts.now ≡ starts.now) × (t.ends.now ≡ ends.now)) }
 {
-    let found = groups::folds(size(starts, ends), settings.folds, starts.len());
-    spans_and_room(
-        groups::fraction(found, settings.embargo),
-        starts,
-        ends,
-        room,
-    )
+    let table = size(starts, ends)?;
+    groups::folds(settings.folds, table.len())?;
+    groups::fraction(settings.embargo)?;
+    spans_and_room(&table, room)?;
+    Ok(table)
 }
 
 // k-fold: .. 13.
-pub fn kfold(starts: &[i64], ends: &[i64], settings: Settings, s: u64, room: usize) -> Checked
-    ensures { said_checked result ≡ checked (table_checks starts.now ends.now settings room ++ no_such settings.folds s ∷ []) tt }
+pub fn kfold<'a>(
+    starts: &'a [i64],
+    ends: &'a [i64],
+    settings: Settings,
+    s: u64,
+    room: usize,
+) -> Result<Table<'a>, Refusal>
+    ensures answer { said_checked result ≡ checked (table_checks starts.now ends.now settings room ++ no_such settings.folds s ∷ []) tt }
+    ensures passed { IfOk result (λ t. (t.starts.now ≡ starts.now) × (t.ends.now ≡ ends.now)) }
 {
-    numbers::below(
-        folds_of_rows(starts, ends, settings, room),
-        settings.folds as u64,
-        s,
-    )
+    let table = folds_of_rows(starts, ends, settings, room)?;
+    numbers::below(settings.folds as u64, s)?;
+    Ok(table)
 }
 
 // Combinations: .. 6, 11, 8, 13.
-pub fn cpcv(
-    starts: &[i64],
-    ends: &[i64],
+pub fn cpcv<'a>(
+    starts: &'a [i64],
+    ends: &'a [i64],
     settings: Settings,
     k: usize,
     s: u64,
     room: usize,
-) -> Checked
-    ensures { said_checked result ≡ checked (table_checks starts.now ends.now settings room ++ combination_checks settings.folds k ++ no_such (choose settings.folds k) s ∷ []) tt }
+) -> Result<(Table<'a>, Choice), Refusal>
+    ensures answer { said_checked result ≡ checked (table_checks starts.now ends.now settings room ++ combination_checks settings.folds k ++ no_such (choose settings.folds k) s ∷ []) tt }
+    ensures passed { IfOk result (λ p. (p.0.starts.now ≡ starts.now) × (p.0.ends.now ≡ ends.now) × (p.1.n ≡ settings.folds) × (p.1.k ≡ k) × (s < choose settings.folds k)) }
 {
-    let found = folds_of_rows(starts, ends, settings, room);
-    numbers::split_number(
-        numbers::combinations(found, settings.folds, k),
-        settings.folds,
-        k,
-        s,
-    )
+    let table = folds_of_rows(starts, ends, settings, room)?;
+    let choice = numbers::combinations(settings.folds, k)?;
+    numbers::split_number(choice, s)?;
+    Ok((table, choice))
 }
 
-// 13 of walk-forward: folds m to N - 1 are tested.
-fn later_fold(found: Checked, folds: usize, m: usize, s: u64) -> Checked
-    requires { found ≡ Checked.Fine → m < folds }
-    ensures { said_checked result ≡ (found then no_such (folds - m) s ∷ []) }
-{
-    match found {
-        Checked::Bad(r) => Checked::Bad(r),
-        Checked::Fine => numbers::below(Checked::Fine, (folds - m) as u64, s),
-    }
-}
-
-// Walk-forward: .. 7, 13.
-pub fn walk_forward(
-    starts: &[i64],
-    ends: &[i64],
+// Walk-forward: .. 7, 13: folds m to N - 1 are tested.
+pub fn walk_forward<'a>(
+    starts: &'a [i64],
+    ends: &'a [i64],
     settings: Settings,
     m: usize,
     s: u64,
     room: usize,
-) -> Checked
-    ensures { said_checked result ≡ checked (walk_forward_checks starts.now ends.now settings m s room) tt }
+) -> Result<Table<'a>, Refusal>
+    ensures answer { said_checked result ≡ checked (walk_forward_checks starts.now ends.now settings m s room) tt }
+    ensures passed { IfOk result (λ t. (t.starts.now ≡ starts.now) × (t.ends.now ≡ ends.now)) }
 {
-    let found = folds_of_rows(starts, ends, settings, room);
-    later_fold(
-        groups::minimum(found, settings.folds, m),
-        settings.folds,
-        m,
-        s,
-    )
+    let table = folds_of_rows(starts, ends, settings, room)?;
+    groups::minimum(settings.folds, m)?;
+    numbers::below((settings.folds - m) as u64, s)?;
+    Ok(table)
 }
 
 // Does split s begin past the last row? The product is not made: it may be larger than any number here.
@@ -109,47 +108,37 @@ fn begins_past(n: usize, a: usize, step: usize, s: u64) -> bool
     (((n - 1 - a) / step) as u64) < s
 }
 
-// 13 of the rolling layout.
-fn later_start(found: Checked, n: usize, a: usize, step: usize, s: u64) -> Checked
-    requires { found ≡ Checked.Fine → (a < n) × (0 < step) }
-    ensures { said_checked result ≡ (found then no_such n (a + s * step) ∷ []) }
-{
-    match found {
-        Checked::Bad(r) => Checked::Bad(r),
-        Checked::Fine => {
-            Checked::Fine.refuse_if(begins_past(n, a, step, s), Refusal::NoSuchNumber)
-        }
-    }
-}
-
-// 15 and 16.
-fn sizes_within(found: Checked, n: usize, a: usize, size: usize, step: usize) -> Checked
-    ensures { said_checked result ≡ (found then zero_size a size step ∷ nothing_to_test a n ∷ []) }
-{
-    groups::sizes(found, a, size, step).refuse_if(n <= a, Refusal::NothingToTest)
-}
-
 // 12, 1, 10, 3, 4, 5: the rolling layout has no folds.
-fn rows_alone(starts: &[i64], ends: &[i64], x: f64, room: usize) -> Checked
-    ensures { said_checked result ≡ checked (rows_alone starts.now ends.now x room) tt }
+fn rows_alone<'a>(
+    starts: &'a [i64],
+    ends: &'a [i64],
+    x: f64,
+    room: usize,
+) -> Result<Table<'a>, Refusal>
+    ensures answer { said_checked result ≡ checked (rows_alone starts.now ends.now x room) tt }
+    ensures passed { IfOk result (λ t. (t.starts.now ≡ starts.now) × (t.ends.now ≡ ends.now)) }
 {
-    spans_and_room(groups::fraction(size(starts, ends), x), starts, ends, room)
+    let table = size(starts, ends)?;
+    groups::fraction(x)?;
+    spans_and_room(&table, room)?;
+    Ok(table)
 }
 
 // The rolling layout: .. 15, 16, 13.
-pub fn rolling(
-    starts: &[i64],
-    ends: &[i64],
-    x: f64,
-    a: usize,
-    size: usize,
-    step: usize,
+pub fn rolling<'a>(
+    starts: &'a [i64],
+    ends: &'a [i64],
+    layout: Rolling,
     s: u64,
     room: usize,
-) -> Checked
-    ensures { said_checked result ≡ checked (rows_alone starts.now ends.now x room ++ zero_size a size step ∷ nothing_to_test a (length starts.now) ∷ no_such (length starts.now) (a + s * step) ∷ []) tt }
+) -> Result<Table<'a>, Refusal>
+    ensures answer { said_checked result ≡ checked (rows_alone starts.now ends.now layout.pct_embargo room ++ zero_size layout.min_train_size layout.test_size layout.step_size ∷ nothing_to_test layout.min_train_size (length starts.now) ∷ no_such (length starts.now) (layout.min_train_size + s * layout.step_size) ∷ []) tt }
+    ensures passed { IfOk result (λ t. (t.starts.now ≡ starts.now) × (t.ends.now ≡ ends.now)) }
 {
-    let n = starts.len();
-    let found = sizes_within(rows_alone(starts, ends, x, room), n, a, size, step);
-    later_start(found, n, a, step, s)
+    let table = rows_alone(starts, ends, layout.pct_embargo, room)?;
+    let n = table.len();
+    groups::sizes(layout, n)?;
+    let past = begins_past(n, layout.min_train_size, layout.step_size, s);
+    refuse_if(past, Refusal::NoSuchNumber)?;
+    Ok(table)
 }

@@ -5,21 +5,25 @@ use mathlib.Core.List.{List}
 use Prim.Native.Nat.{ℕ, zero, suc, ◌+◌, ◌<◌}
 use native.Mathlib.Numerals.{add-one}
 use native.Mathlib.Omega.{arith}
-use lib.IntN.{ℤ}
+use lib.Dec.{leb}
+use lib.ListN.{length}
 use borrow.Author.Tests.{ne_eqb}
 use Rattle.lists.specs.Base.{any}
 use Rattle.lists.specs.AnyLaws.{any_ext}
-use Rattle.paper.specs.Spans.{span_of, table, overlaps}
-use Rattle.paper.specs.Folds.{Rows}
+use Rattle.paper.specs.Spans.{overlaps}
 use Rattle.paper.specs.Blocks.{latest}
 use Rattle.paper.specs.Embargo.{embargo_from}
 use Rattle.paper.specs.Marks.{purged, mark, mark_of}
 use Rattle.laws.specs.Ranges.{ranged, Ranges, touches, heads, past_range, past_ends}
-use Rattle.laws.specs.Worker.{covers, ranged_split}
+use Rattle.laws.specs.Worker.{covers}
 use Rattle.laws.proofs.WorkerLaws.{worker_window, worker_hulls, worker_mark}
-use Rattle.blocks.specs.declared.Rule.{Rule}
-use Rattle.blocks.specs.declared.Rule.TheVariants.{Window, Pair}
-use Rattle.blocks.specs.Held.{rule_of, Blocks}
+use Rattle.spans.specs.declared.table.Table as table
+use Rattle.spans.specs.Tables.{table_of}
+use Rattle.blocks.specs.declared.Block.{Block}
+use Rattle.paper.specs.declared.rule.Rule.{Rule}
+use Rattle.paper.specs.declared.rule.Rule.TheVariants.{Window, Pair}
+use Rattle.paper.specs.Rules.{rule_of}
+use Rattle.blocks.specs.Held.{block_firsts, block_pasts, windows, embargoes, block_split, Blocks}
 use Rattle.rows.specs.Asked.{purged_by, covered_by, Held}
 
 module _ {F G : ℕ → ℕ} {k n : ℕ} (w : Blocks F G k n) where
@@ -41,34 +45,36 @@ module _ {F G : ℕ → ℕ} {k n : ℕ} (w : Blocks F G k n) where
   any-heads : (p : ℕ → Bool) → any (λ j. heads F G j && p j) k ≡ any p k
   any-heads p = any_ext _ _ k (λ j l. rw (all_heads j l))
 
-module _ {starts ends lo hi : List ℤ} {F G emb : ℕ → ℕ} {k : ℕ} where
+module _ {t : table.Table} {bs : List Block} where
   -- The search for a block that purges the row finds what the rule says.
   row_purged :
-      (r : Rule) → Held r starts ends F G k lo hi emb → (i : ℕ) →
-      purged (rule_of r) (table starts ends) (ranged F G k) i
-      ≡ purged_by r (table starts ends) F G (span_of lo hi) (span_of starts ends i) k
+      (r : Rule) → Held r t bs → (i : ℕ) →
+      purged (rule_of r) (table_of t) (ranged (block_firsts bs) (block_pasts bs) (length bs)) i
+      ≡ purged_by r (table_of t) (block_firsts bs) (block_pasts bs) (windows bs) ((table_of t).span i) (length bs)
   row_purged Window h i =
-      let T = table starts ends in
-      worker_window T (blocks_ranges h.blocks) (span_of lo hi)
+      let T = table_of t in
+      worker_window T (blocks_ranges h.blocks) (windows bs)
       (λ j l e.
       ap₂ (λ x y. record { start = x; end = y }) (h.bounds.low j l)
-      (h.bounds.high j l ∙ ap (latest T (F j)) (sym (block_past h.blocks j l))))
+      (h.bounds.high j l ∙ ap (latest T (block_firsts bs j)) (sym (block_past h.blocks j l))))
       i
-      ∙ any-heads h.blocks (λ j. overlaps T (T.span i) (span_of lo hi j))
+      ∙ any-heads h.blocks (λ j. overlaps T (T.span i) (windows bs j))
   row_purged Pair h i =
-      worker_hulls (table starts ends) (blocks_ranges h.blocks) (span_of lo hi)
+      worker_hulls (table_of t) (blocks_ranges h.blocks) (windows bs)
       (λ j l. ap₂ (λ x y. record { start = x; end = y }) (h.bounds.low j l) (h.bounds.high j l)) i
 
   -- So the three searches give the row's mark.
   pub row_marked :
-      (r : Rule) → Held r starts ends F G k lo hi emb → (unused : Rows) (width i : ℕ) →
-      mark_of (rule_of r) (table starts ends) (ranged_split F G k unused width) i
-      ≡ mark (ranged F G k i) (unused i) (purged_by r (table starts ends) F G (span_of lo hi) (span_of starts ends i) k)
-      (covered_by emb width i k)
-  row_marked r h unused width i =
-      let T = table starts ends in
-      let p = purged_by r T F G (span_of lo hi) (span_of starts ends i) k in
-      worker_mark T (blocks_ranges h.blocks) (rule_of r) unused emb
-      (λ j l e. h.bounds.embargo j l ∙ ap (embargo_from T (F j)) (sym (block_past h.blocks j l))) width i p
+      (r : Rule) → Held r t bs → (used width i : ℕ) →
+      mark_of (rule_of r) (table_of t) (block_split bs used width) i
+      ≡ mark (ranged (block_firsts bs) (block_pasts bs) (length bs) i) (leb used i)
+      (purged_by r (table_of t) (block_firsts bs) (block_pasts bs) (windows bs) ((table_of t).span i) (length bs))
+      (covered_by (embargoes bs) width i (length bs))
+  row_marked r h used width i =
+      let T = table_of t in
+      let p = purged_by r T (block_firsts bs) (block_pasts bs) (windows bs) (T.span i) (length bs) in
+      let tested = ranged (block_firsts bs) (block_pasts bs) (length bs) i in
+      worker_mark T (blocks_ranges h.blocks) (rule_of r) (leb used) (embargoes bs)
+      (λ j l e. h.bounds.embargo j l ∙ ap (embargo_from T (block_firsts bs j)) (sym (block_past h.blocks j l))) width i p
       (row_purged r h i)
-      ∙ ap (mark (ranged F G k i) (unused i) p) (any-heads h.blocks (λ j. covers (emb j) width i))
+      ∙ ap (mark tested (leb used i) p) (any-heads h.blocks (λ j. covers (embargoes bs j) width i))

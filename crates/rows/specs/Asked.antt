@@ -1,12 +1,15 @@
 -- What a row is asked, block by block, and what must be held of the blocks so that the answers give 01's mark.
-use Rattle.std.specs.Prelude.{◌≡◌, Bool, ◌&&◌, List, ℕ, ◌≤◌, ℤ, length}
+use Rattle.std.specs.Prelude.{Bool, ◌&&◌, List, ℕ, ◌≤◌, length}
 use Rattle.lists.specs.Base.{any, any_from}
 use Rattle.paper.specs.declared.span.Span.{Span}
-use Rattle.paper.specs.Spans.{Table, table, overlaps}
+use Rattle.paper.specs.Spans.{Table, overlaps}
+use Rattle.spans.specs.declared.table.Table as table
+use Rattle.spans.specs.Tables.{table_of, rows_in}
 use Rattle.laws.specs.Worker.{covers}
-use Rattle.blocks.specs.declared.Rule.{Rule}
-use Rattle.blocks.specs.declared.Rule.TheVariants.{Window, Pair}
-use Rattle.blocks.specs.Held.{time, Blocks, Bounds}
+use Rattle.blocks.specs.declared.Block.{Block}
+use Rattle.paper.specs.declared.rule.Rule.{Rule}
+use Rattle.paper.specs.declared.rule.Rule.TheVariants.{Window, Pair}
+use Rattle.blocks.specs.Held.{block_firsts, block_pasts, windows, embargoes, Blocks, Bounds}
 
 -- The span a overlaps that of row q.
 abbrev pub meets_at : Table → Span → ℕ → Bool
@@ -26,9 +29,10 @@ purged_by r T F G bounds a k = any (λ j. hit_by r T a (bounds j) (F j) (G j)) k
 abbrev pub covered_by : (ℕ → ℕ) → ℕ → ℕ → ℕ → Bool
 covered_by emb width i k = any (λ j. covers (emb j) width i) k
 
--- The arrays hold the blocks of a table, with their bounds and embargoes.
-pub record Held (r : Rule) (starts ends : List ℤ) (F G : ℕ → ℕ) (k : ℕ) (lo hi : List ℤ) (emb : ℕ → ℕ) : Type 0 where
-  pub same : length starts ≡ length ends
-  pub few : k ≤ 64
-  pub blocks : Blocks F G k (length starts)
-  pub bounds : Bounds r (table starts ends) F G k (time lo) (time hi) emb
+-- The list holds the blocks of a table, with their bounds and embargoes.
+pub record Held (r : Rule) (t : table.Table) (bs : List Block) : Type 0 where
+  pub few : length bs ≤ 64
+  pub blocks : Blocks (block_firsts bs) (block_pasts bs) (length bs) (rows_in t)
+  pub bounds :
+      Bounds r (table_of t) (block_firsts bs) (block_pasts bs) (length bs) (λ j. (windows bs j).start) (λ j. (windows bs j).end)
+      (embargoes bs)

@@ -4,140 +4,128 @@
 // - one row at a time and all blocks, where the Rust takes one block at a time and all rows, with a list of flags for each
 //   question;
 // - no flags are kept: a row's place tells whether it is tested and embargoed;
-// - the pair rule looks at the test rows of a block only if the row overlaps their hull.
+// - the pair rule looks at the test rows of a block only if the row overlaps their hull;
+// - the searches are loops: by `any` the pass over the rows took a fifth longer.
 #![tactic(auto)]
 
 ghost use Rattle.std.specs.Prelude.{◌≡◌, false, ◌≤◌, ◌<◌, length};
 ghost use Rattle.lists.specs.Base.{any_from};
-ghost use Rattle.paper.specs.Spans.{span_of, table};
-ghost use Rattle.paper.specs.Folds.{within};
 ghost use Rattle.paper.specs.Marks.{mark, mark_of};
 ghost use Rattle.laws.specs.Ranges.{ranged};
 ghost use Rattle.laws.specs.Worker.{covers};
-ghost use Rattle.blocks.specs.Held.{rule_of, nth, array_split, Blocks};
+ghost use Rattle.spans.specs.Tables.{table_of, rows_in};
+ghost use Rattle.paper.specs.Rules.{rule_of};
+ghost use Rattle.blocks.specs.Held.{block_firsts, block_pasts, windows, embargoes, block_split};
 ghost use Rattle.rows.specs.Asked.{meets_at, hit_by, purged_by, covered_by, Held};
 
-use blocks::Rule;
-use paper::Span;
-use spans::intervals_overlap;
+use blocks::Block;
+use folds::RowRange;
+use paper::{Rule, Span};
+use spans::{Table, intervals_overlap};
 
-// ---- tested
+// By what rows are marked: the rule, how many of them take part, and how many an embargo covers.
+#[derive(Clone, Copy)]
+pub struct Terms {
+    pub rule: Rule,
+    pub used: usize,
+    pub width: usize,
+}
 
-// Is row i in one of the blocks?
-fn tested(first: &[usize; 64], past: &[usize; 64], blocks: usize, i: usize) -> bool
-    requires { blocks ≤ 64 }
-    ensures { result ≡ ranged (nth first.now) (nth past.now) blocks i }
-{
-    let mut j = 0;
-    while j < blocks {
-        if inside(first[j], past[j], i) {
-            return true;
+// The blocks of a split, and all else that a row is held against.
+#[derive(Clone, Copy)]
+pub struct Marker<'a> {
+    pub terms: Terms,
+    pub table: Table<'a>,
+    pub blocks: &'a [Block],
+    ghost held: { Held terms.rule table blocks.now },
+}
+
+impl<'a> Marker<'a> {
+    // The mark of row i. Rows from `used` on take no part.
+    pub fn row_mark(&self, i: usize) -> u8
+        requires { i < rows_in self.now.table }
+        ensures { result ≡ mark_of (rule_of self.now.terms.rule) (table_of self.now.table) (block_split self.now.blocks.now self.now.terms.used self.now.terms.width) i }
+    {
+        if self.tested(i) {
+            return 1;
         }
-        j += 1;
-    }
-    false
-}
-
-fn inside(b: usize, e: usize, i: usize) -> bool
-    ensures { result ≡ within b e i }
-{
-    b <= i && i < e
-}
-
-// ---- purged
-
-// The span of row i.
-fn row_span(starts: &[i64], ends: &[i64], i: usize) -> Span
-    requires { (i < length starts.now) × (i < length ends.now) }
-    ensures { result ≡ span_of starts.now ends.now i }
-{
-    Span {
-        start: starts[i],
-        end: ends[i],
-    }
-}
-
-// The window or hull of block j.
-fn bound(lo: &[i64; 64], hi: &[i64; 64], j: usize) -> Span
-    requires { j < 64 }
-    ensures { result ≡ span_of lo.now hi.now j }
-{
-    Span {
-        start: lo[j],
-        end: hi[j],
-    }
-}
-
-// Is a row with span a purged by some block?
-fn purged(
-    rule: Rule,
-    starts: &[i64],
-    ends: &[i64],
-    a: Span,
-    first: &[usize; 64],
-    past: &[usize; 64],
-    lo: &[i64; 64],
-    hi: &[i64; 64],
-    blocks: usize,
-) -> bool
-    requires blocks { Blocks (nth first.now) (nth past.now) blocks (length starts.now) }
-    requires blocks_bound { (blocks ≤ 64) × (length starts.now ≡ length ends.now) }
-    ensures { result ≡ purged_by rule (table starts.now ends.now) (nth first.now) (nth past.now) (span_of lo.now hi.now) a blocks }
-{
-    let mut j = 0;
-    while j < blocks {
-        if hit(rule, starts, ends, a, bound(lo, hi, j), first[j], past[j]) {
-            return true;
+        if self.terms.used <= i {
+            return 5;
         }
-        j += 1;
+        left_mark(self.purged(self.table.span(i)), self.embargoed(i))
     }
-    false
-}
 
-// Does the block b up to e purge a row with span a? One that misses the window or hull is settled. For one that does not,
-// the window rule asks no more, and the pair rule looks at the rows.
-fn hit(rule: Rule, starts: &[i64], ends: &[i64], a: Span, bound: Span, b: usize, e: usize) -> bool
-    requires { (b ≤ e) × (e ≤ length starts.now) × (length starts.now ≡ length ends.now) }
-    ensures { result ≡ hit_by rule (table starts.now ends.now) a bound b e }
-{
-    if intervals_overlap(a, bound) {
-        match rule {
-            Rule::Window => true,
-            Rule::Pair => meets_row(starts, ends, a, b, e),
+    // Is row i in one of the blocks?
+    fn tested(&self, i: usize) -> bool
+        ensures { result ≡ ranged (block_firsts self.now.blocks.now) (block_pasts self.now.blocks.now) (length self.now.blocks.now) i }
+    {
+        for block in self.blocks {
+            if block.rows.contains(i) {
+                return true;
+            }
         }
-    } else {
+        false
+    }
+
+    // Is a row with span a purged by some block?
+    fn purged(&self, a: Span) -> bool
+        ensures { result ≡ purged_by self.now.terms.rule (table_of self.now.table) (block_firsts self.now.blocks.now) (block_pasts self.now.blocks.now) (windows self.now.blocks.now) a (length self.now.blocks.now) }
+    {
+        for block in self.blocks {
+            if hit(self.terms.rule, &self.table, a, block) {
+                return true;
+            }
+        }
+        false
+    }
+
+    // Is row i one of the width rows that the embargo of some block covers?
+    fn embargoed(&self, i: usize) -> bool
+        ensures { result ≡ covered_by (embargoes self.now.blocks.now) self.now.terms.width i (length self.now.blocks.now) }
+    {
+        for block in self.blocks {
+            if covered(block.embargo, self.terms.width, i) {
+                return true;
+            }
+        }
         false
     }
 }
 
-// Does a span overlap that of one of the rows b up to e?
-fn meets_row(starts: &[i64], ends: &[i64], a: Span, b: usize, e: usize) -> bool
-    requires { (b ≤ e) × (e ≤ length starts.now) × (length starts.now ≡ length ends.now) }
-    ensures { result ≡ any_from (meets_at (table starts.now ends.now) a) b e }
+// The mark of a row that is not tested and takes part.
+fn left_mark(purged: bool, embargoed: bool) -> u8
+    ensures { result ≡ mark false false purged embargoed }
 {
-    let mut i = b;
-    while i < e {
-        if intervals_overlap(a, row_span(starts, ends, i)) {
-            return true;
-        }
-        i += 1;
+    match (purged, embargoed) {
+        (false, false) => 0,
+        (true, false) => 2,
+        (false, true) => 3,
+        (true, true) => 4,
     }
-    false
 }
 
-// ---- embargoed
-
-// Is row i one of the width rows that the embargo of some block covers?
-fn embargoed(embargo: &[usize; 64], blocks: usize, width: usize, i: usize) -> bool
-    requires { blocks ≤ 64 }
-    ensures { result ≡ covered_by (nth embargo.now) width i blocks }
+// Does the block purge a row with span a? One that misses the window or hull is settled. For one that does not, the window
+// rule asks no more, and the pair rule looks at the rows.
+fn hit(rule: Rule, table: &Table, a: Span, block: &Block) -> bool
+    requires { (block.now.rows.first ≤ block.now.rows.past) × (block.now.rows.past ≤ rows_in table.now) }
+    ensures { result ≡ hit_by rule (table_of table.now) a block.now.window block.now.rows.first block.now.rows.past }
 {
-    let mut j = 0;
-    while j < blocks {
-        if covered(embargo[j], width, i) {
+    intervals_overlap(a, block.window)
+        && match rule {
+            Rule::Window => true,
+            Rule::Pair => meets_row(table, a, block.rows),
+        }
+}
+
+// Does a span overlap that of one of some rows?
+fn meets_row(table: &Table, a: Span, rows: RowRange) -> bool
+    requires { (rows.first ≤ rows.past) × (rows.past ≤ rows_in table.now) }
+    ensures { result ≡ any_from (meets_at (table_of table.now) a) rows.first rows.past }
+{
+    for i in rows.first..rows.past {
+        if intervals_overlap(a, table.span(i)) {
             return true;
         }
-        j += 1;
     }
     false
 }
@@ -147,51 +135,4 @@ fn covered(w: usize, width: usize, i: usize) -> bool
     ensures { result ≡ covers w width i }
 {
     w <= i && i - w < width
-}
-
-// ---- the mark
-
-// The mark of row i. Rows from `used` on take no part.
-pub fn row_mark(
-    rule: Rule,
-    starts: &[i64],
-    ends: &[i64],
-    first: &[usize; 64],
-    past: &[usize; 64],
-    lo: &[i64; 64],
-    hi: &[i64; 64],
-    embargo: &[usize; 64],
-    blocks: usize,
-    used: usize,
-    width: usize,
-    i: usize,
-) -> u8
-    requires held { Held rule starts.now ends.now (nth first.now) (nth past.now) blocks lo.now hi.now (nth embargo.now) }
-    requires i_in_bounds { i < length starts.now }
-    ensures { result ≡ mark_of (rule_of rule) (table starts.now ends.now) (array_split first.now past.now blocks used width) i }
-{
-    if tested(first, past, blocks, i) {
-        return 1;
-    }
-    if used <= i {
-        return 5;
-    }
-    let a = row_span(starts, ends, i);
-    left_mark(
-        purged(rule, starts, ends, a, first, past, lo, hi, blocks),
-        embargoed(embargo, blocks, width, i),
-    )
-}
-
-// The mark of a row that is not tested and takes part.
-fn left_mark(purged: bool, embargoed: bool) -> u8
-    ensures { result ≡ mark false false purged embargoed }
-{
-    if purged {
-        if embargoed { 4 } else { 2 }
-    } else if embargoed {
-        3
-    } else {
-        0
-    }
 }

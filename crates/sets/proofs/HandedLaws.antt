@@ -1,7 +1,7 @@
 -- Laws of fold sets: what a set that was handed out lists, and one fold put at its end.
 use mathlib.Core.Path.{◌≡◌, refl, sym, ap, ◌∙◌}
 use mathlib.Core.List.{List, [], ◌∷◌, ◌++◌, append_assoc}
-use Prim.Native.Nat.{ℕ, zero, suc, ◌+◌, ◌-◌, ◌<◌, min}
+use Prim.Native.Nat.{ℕ, zero, suc, ◌+◌, ◌-◌, ◌<◌}
 use native.Mathlib.Omega.{arith}
 use lib.ListN.{length, get_or, take, replicate, set, length-append, length-take}
 use native.Mathlib.Numerals.{add-one}
@@ -75,17 +75,15 @@ pub list_of_at : (b : FoldSet) (i : ℕ) → i < length (list_of b) → get_or (
 list_of_at b i h = places_at b.folds b.count i h
 
 -- The list is as long as there are places for.
-pub length_places : (l : List FoldNumber) (many : ℕ) → length (take many (numbers l)) ≡ min many (length l)
-length_places l many = length-take many (numbers l) ∙ ap (min many) (length-numbers l)
 
 -- ---- a set made fold by fold
 
 pub handed-count : (s : List ℕ) {r : FoldSet} → r ≡ handed s → r.count ≡ length s
 handed-count s e = ap (λ x. x.count) e
 
--- One fold more of the list that is copied.
-pub handed_taken : (b out r : FoldSet) (i : ℕ) → i < length (list_of b) → out ≡ handed (take i (list_of b))
-    → r ≡ handed (list_of out ++ (get_or b.folds i (record { 0 = 0 })).0 ∷ []) → r ≡ handed (take (i + 1) (list_of b))
-handed_taken b out r i h e er =
+-- One fold more of the list that is copied from the first `many` places.
+pub handed_taken : (b out r : FoldSet) (many i : ℕ) → i < many → i < length (list_of b) → out ≡ handed (take i (list_of b))
+    → r ≡ handed (list_of out ++ (get_or (take many b.folds) i (record { 0 = 0 })).0 ∷ []) → r ≡ handed (take (i + 1) (list_of b))
+handed_taken b out r many i lt h e er =
     let l : list_of out ≡ take i (list_of b) = ap list_of e ∙ list_of-handed (take i (list_of b)) in
-    er ∙ rw (l, ← list_of_at b i h, add-one i, take-suc (list_of b) i 0 h)
+    er ∙ rw (l, get_or-take many b.folds i (record { 0 = 0 }) lt, ← list_of_at b i h, add-one i, take-suc (list_of b) i 0 h)

@@ -13,13 +13,13 @@ use lib.Seq.{drop-length, drop-cons, split_at, length-take-le}
 use Rattle.paper.specs.Sets.{choose, listing}
 use Rattle.paper.proofs.Listing.{choose_past, choose_self, entry_first, entry_second}
 use Rattle.paper.proofs.ListingMeaning.{Rises, rises_lower, is_split_rises}
-use Rattle.paper.specs.declared.answers.Next.{Next}
-use Rattle.paper.specs.declared.answers.Next.TheVariants.{Last}
+use Rattle.std.specs.Prelude.{None, Some}
 use Rattle.paper.specs.Sets.{is_split}
 use Rattle.paper.specs.declared.numbers.FoldSet.{FoldSet}
-use Rattle.paper.specs.Handed.{handed, list_of, no_folds}
+use Rattle.paper.specs.Handed.{handed, list_of}
 use Rattle.paper.proofs.PlacesMeaning.{place_of-entry}
-use Rattle.sets.specs.Work.{Tidy, up, Highest, Turn, next_of}
+use Rattle.paper.specs.Places.{next_folds}
+use Rattle.sets.specs.Work.{Tidy, up, Highest, Turn}
 use Rattle.sets.proofs.HandedLaws.{list_of_at, list_of-handed, handed-count}
 use Rattle.sets.proofs.NumberingLaws.{rises_room}
 
@@ -180,7 +180,7 @@ module _ (n k : ℕ) (s : List ℕ) (split : is_split n k s ≡ true) where
 
   -- ---- the answer
 
-  pub next_last : Highest n s 0 → next_of n k s ≡ record { outcome = Last; folds = no_folds }
+  pub next_last : Highest n s 0 → next_folds n k s ≡ None
   next_last w =
       let z : length s - 0 ≡ k = omega (arith, split_long) in
       let there : get_or (listing 0 n k) (choose n k - 1) [] ≡ s =
@@ -191,7 +191,7 @@ module _ (n k : ℕ) (s : List ℕ) (split : is_split n k s ≡ true) where
         le-ltb (choose n k - 1 + 1) (choose n k) (omega arith),
       )
 
-  follows_next : (t : List ℕ) → Follows 0 n k s t → next_of n k s ≡ record { outcome = Next.After; folds = handed t }
+  follows_next : (t : List ℕ) → Follows 0 n k s t → next_folds n k s ≡ Some (handed t)
   unfolding Follows
   follows_next t (i, lt, es, et) =
       rw (place_of-entry n k i s (omega arith) es, lt-ltb (i + 1) (choose n k) (omega arith), add-one i, et)
@@ -207,7 +207,7 @@ module _ (n k : ℕ) (s : List ℕ) (split : is_split n k s ≡ true) where
       (follows_rise 0 n k n (get_or s j 0) m (take j s) (omega arith) up_to long (omega arith))
 
   pub next_after : (r : ℕ) → Turn n s r → 0 < r
-      → next_of n k s ≡ record { outcome = Next.After; folds = handed (take (r - 1) s ++ up (get_or s (r - 1) 0 + 1) (k + 1 - r)) }
+      → next_folds n k s ≡ Some (handed (take (r - 1) s ++ up (get_or s (r - 1) 0 + 1) (k + 1 - r)))
   next_after r w some =
       let e : suc (r - 1) ≡ r = omega arith in
       let m : suc (length s - suc (r - 1)) ≡ k + 1 - r = omega (arith, split_long, w.from.place) in
@@ -215,22 +215,35 @@ module _ (n k : ℕ) (s : List ℕ) (split : is_split n k s ≡ true) where
       let f = next_step (r - 1) (rw e w.from) (rw e (w.rises some)) in
       follows_next (take (r - 1) s ++ up (get_or s (r - 1) 0 + 1) (k + 1 - r)) (rw (m, a) at f)
 
--- The fold before place i, as the code reads it, is the list's, and those behind it have room.
-pub fold_before : (b : FoldSet) (n k i : ℕ) → is_split n k (list_of b) ≡ true → 0 < i → i ≤ k
-    → (get_or (list_of b) (i - 1) 0 ≡ (get_or b.folds (i - 1) (record { 0 = 0 })).0)
-    × ((get_or b.folds (i - 1) (record { 0 = 0 })).0 + 1 + (k - i) ≤ n)
+-- The fold at place i, as the code reads it, is the list's, and those from it on have room.
+pub fold_at : (b : FoldSet) (n k i : ℕ) → is_split n k (list_of b) ≡ true → i < k
+    → (get_or (list_of b) i 0 ≡ (get_or b.folds i (record { 0 = 0 })).0)
+    × ((get_or b.folds i (record { 0 = 0 })).0 + (k - i) ≤ n)
     × (k ≤ n)
-fold_before b n k i split some le =
+fold_at b n k i split lt =
     let s = list_of b in
-    let e = list_of_at b (i - 1) (omega (arith, split_long n k s split)) in
-    (e, omega (arith, split_reach n k s split (i - 1) (omega arith)), split_room n k s split)
+    let e = list_of_at b i (omega (arith, split_long n k s split)) in
+    (e, omega (arith, split_reach n k s split i lt), split_room n k s split)
+
+-- Where a fold can rise: its place, and the room for it and those behind it.
+pub turn_room : (b : FoldSet) (n k i : ℕ) → n ≤ 64 → is_split n k (list_of b) ≡ true → Turn n (list_of b) (i + 1)
+    → (i < k) × (k ≤ 64) × (k ≡ length (list_of b)) × ((get_or b.folds i (record { 0 = 0 })).0 + 1 + (k - i) ≤ n)
+turn_room b n k i few split turn =
+    let long = split_long n k (list_of b) split in
+    let place = turn.from.place in
+    let a = fold_at b n k i split (omega arith) in
+    let e : i + 1 - 1 ≡ i = omega arith in
+    (omega arith, omega arith, omega arith, omega (arith, rw e at (turn.rises (omega arith)), a.0))
 
 -- The set, copied up to the fold that rises, and those that follow it.
-pub run_more : (b : FoldSet) (out r : FoldSet) (first i : ℕ) → out ≡ handed (list_of b ++ up first i)
-    → r ≡ handed (list_of out ++ (first + i) ∷ []) → r ≡ handed (list_of b ++ up first (i + 1))
-run_more b out r first i e er =
+pub run_more : (b : FoldSet) (out r : FoldSet) (first fold : ℕ) → first ≤ fold → out ≡ handed (list_of b ++ up first (fold - first))
+    → r ≡ handed (list_of out ++ fold ∷ []) → r ≡ handed (list_of b ++ up first (fold + 1 - first))
+run_more b out r first fold le e er =
+    let i = fold - first in
+    let at : fold ≡ first + i = omega arith in
+    let more : fold + 1 - first ≡ i + 1 = omega arith in
     let l : list_of out ≡ list_of b ++ up first i = ap list_of e ∙ list_of-handed (list_of b ++ up first i) in
-    er ∙ rw (l, up_more, append_assoc)
+    er ∙ rw (more, l, up_more, ← at, append_assoc)
 
 pub run_start : (b : FoldSet) (first : ℕ) → Tidy b → b ≡ handed (list_of b ++ up first 0)
 unfolding up
@@ -241,13 +254,15 @@ run_count b out first i t e =
     omega (arith, handed-count (list_of b ++ up first i) e, length-append (list_of b) (up first i), length_up first i, handed-count (list_of b) t)
 
 -- The answer that is put together so is the set after.
-pub next_made : (b : FoldSet) (n k r : ℕ) (t m : FoldSet) → is_split n k (list_of b) ≡ true → Turn n (list_of b) r → 0 < r
-    → t ≡ handed (take (r - 1) (list_of b))
-    → m ≡ handed (list_of t ++ up ((get_or b.folds (r - 1) (record { 0 = 0 })).0 + 1) (k + 1 - r))
-    → record { outcome = Next.After; folds = m } ≡ next_of n k (list_of b)
-next_made b n k r t m split w some et em =
+pub next_made : (b : FoldSet) (n k i : ℕ) (t m : FoldSet) → is_split n k (list_of b) ≡ true → Turn n (list_of b) (i + 1)
+    → t ≡ handed (take i (list_of b))
+    → m ≡ handed (list_of t ++ up ((get_or b.folds i (record { 0 = 0 })).0 + 1) (k - i))
+    → Some m ≡ next_folds n k (list_of b)
+next_made b n k i t m split w et em =
     let s = list_of b in
     let long = split_long n k s split in
-    let l : list_of t ≡ take (r - 1) s = ap list_of et ∙ list_of-handed (take (r - 1) s) in
-    let a = fold_before b n k r split some (omega (arith, w.from.place)) in
-    rw (em, l, ← a.0) (sym (next_after n k s split r w some))
+    let l : list_of t ≡ take i s = ap list_of et ∙ list_of-handed (take i s) in
+    let a = fold_at b n k i split (omega (arith, w.from.place)) in
+    let e : i + 1 - 1 ≡ i = omega arith in
+    let d : k + 1 - (i + 1) ≡ k - i = omega arith in
+    rw (em, l, ← a.0) (sym (rw (e, d) at (next_after n k s split (i + 1) w (omega arith))))

@@ -12,6 +12,11 @@ use Rattle.paper.proofs.PathsMeaning.{Pth, pth_here, pth_first, pth_second}
 use Rattle.sets.specs.Work.{Ahead}
 use Rattle.sets.proofs.TableLaws.{choose-fits}
 
+-- No set of no folds holds one.
+pub hold_zero : (n k : ℕ) → k ≡ 0 → hold n k ≡ 0
+unfolding hold
+hold_zero n k e = rw e
+
 hold_some : (n k p : ℕ) → p < hold n k → (0 < n) × (0 < k)
 unfolding hold
 hold_some n zero p h = absurd (not-suc-le-zero h)

@@ -1,11 +1,8 @@
 -- What the workers require and find, on the way down the remaining folds.
-use Rattle.std.specs.Prelude.{◌≡◌, Bool, true, cond, ◌&&◌, List, [], ◌∷◌, ℕ, zero, suc, ◌+◌, ◌-◌, ◌≤◌, ◌<◌, leb, ltb, length, get_or, drop}
+use Rattle.std.specs.Prelude.{◌≡◌, List, [], ◌∷◌, ℕ, zero, suc, ◌+◌, ◌-◌, ◌≤◌, ◌<◌, length, get_or, drop, Option, None, Some}
 use Rattle.paper.specs.declared.numbers.FoldSet.{FoldSet}
-use Rattle.paper.specs.declared.answers.NextSet.{NextSet}
-use Rattle.paper.specs.declared.answers.Next.TheVariants.{After, Last}
 use Rattle.paper.specs.Sets.{choose, listing}
 use Rattle.paper.specs.Handed.{handed, list_of}
-use Rattle.paper.specs.Places.{has_next, next_folds}
 use Rattle.paper.proofs.Listing.{hold}
 use Rattle.paper.proofs.ListingMeaning.{Rises}
 
@@ -55,11 +52,7 @@ pub record Turn (n : ℕ) (s : List ℕ) (r : ℕ) : Type 0 where
   pub from : Highest n s r
   pub rises : 0 < r → get_or s (r - 1) 0 + 1 + (length s - r) < n
 
--- The answer of next set.
-abbrev pub next_of : ℕ → ℕ → List ℕ → NextSet
-next_of n k s = record { outcome = cond (has_next n k s) After Last; folds = next_folds n k s }
-
--- Does the list ascend, from `low` at the least, and stay below n?
-unfoldable pub rises_from : ℕ → ℕ → List ℕ → Bool
-rises_from low n [] = true
-rises_from low n (a ∷ s) = leb low a && (ltb a n && rises_from (suc a) n s)
+-- The place past the one found; 0 where none was.
+abbrev pub past : Option ℕ → ℕ
+past None = 0
+past (Some i) = i + 1

@@ -3,14 +3,12 @@
 #![tactic(auto)]
 
 pub mod binomial;
+pub mod choice;
 pub mod next;
 pub mod numbering;
 pub mod paths;
 pub mod split;
 pub mod triangle;
 
-pub use binomial::{n_choose_k, too_many};
-pub use next::next_set;
-pub use numbering::{number_of, set_at};
-pub use paths::split_on_path;
-pub use split::is_split;
+pub use binomial::n_choose_k;
+pub use choice::{Choice, Split};

@@ -2,29 +2,16 @@
 // Source: the pushing recursion `combinations_recursive` of backtesting_engine.rs, which goes on to the next set where it
 // pops. Changed against it:
 // - one step a call, from the set itself;
-// - after the last set the answer says so.
-ghost use Rattle.std.specs.Prelude.{◌≡◌, true, ◌++◌, ◌≤◌, ◌<◌, ◌+◌, length, take};
+// - after the last set there is none.
+ghost use Rattle.std.specs.Prelude.{◌≡◌, true, ◌++◌, ◌≤◌, ◌+◌, length, take};
 ghost use Rattle.paper.specs.Sets.{is_split};
 ghost use Rattle.paper.specs.Handed.{handed, list_of};
-ghost use Rattle.sets.specs.Work.{Tidy, Turn, up, next_of};
+ghost use Rattle.paper.specs.Places.{next_folds};
+ghost use Rattle.sets.specs.Work.{Tidy, Turn, past, up};
 
+use crate::choice::{Choice, Split};
 use crate::numbering::with_fold;
-use paper::{FoldSet, Next, NextSet};
-
-// The place past the last fold that can rise. Behind it stand the highest folds there are; 0 where all are such.
-fn turn(n: usize, k: usize, set: FoldSet) -> usize
-    requires { (n ≤ 64) × (is_split n k (list_of set) ≡ true) }
-    ensures { Turn n (list_of set) result }
-{
-    let mut i = k;
-    while 0 < i {
-        if set.folds[i - 1].0 + 1 + (k - i) < n {
-            return i;
-        }
-        i -= 1;
-    }
-    0
-}
+use paper::FoldSet;
 
 // The first folds of a set.
 fn beginning(set: FoldSet, many: usize) -> FoldSet
@@ -32,10 +19,8 @@ fn beginning(set: FoldSet, many: usize) -> FoldSet
     ensures { result ≡ handed (take many (list_of set)) }
 {
     let mut out = FoldSet::none();
-    let mut i = 0;
-    while i < many {
-        out = with_fold(out, set.folds[i].0);
-        i += 1;
+    for fold in &set.folds[..many] {
+        out = with_fold(out, fold.0);
     }
     out
 }
@@ -46,29 +31,33 @@ fn with_run(set: FoldSet, first: usize, many: usize) -> FoldSet
     ensures { result ≡ handed (list_of set ++ up first many) }
 {
     let mut out = set;
-    let mut i = 0;
-    while i < many {
-        out = with_fold(out, first + i);
-        i += 1;
+    for fold in first..first + many {
+        out = with_fold(out, fold);
     }
     out
 }
 
-// The set after a split: its last fold that can rise does so by one, and those behind it follow one after another.
-pub fn next_set(n: usize, k: usize, set: FoldSet) -> NextSet
-    requires { (n ≤ 64) × (is_split n k (list_of set) ≡ true) }
-    ensures { result ≡ next_of n k (list_of set) }
-{
-    let past = turn(n, k, set);
-    if past == 0 {
-        return NextSet {
-            outcome: Next::Last,
-            folds: FoldSet::none(),
-        };
+impl Split {
+    // The place of the last fold that can rise: behind it stand the highest folds there are. None where all are such.
+    #[tactic(auto, using(crate::proofs::NextLaws::split_room))]
+    fn turn(self) -> Option<usize>
+        ensures { Turn self.choice.n (list_of self.set) (past result) }
+    {
+        let Choice { n, k } = self.choice;
+        for i in (0..k).rev() {
+            if self.set.folds[i].0 + (k - i) < n {
+                return Some(i);
+            }
+        }
+        None
     }
-    let rising = set.folds[past - 1].0 + 1;
-    NextSet {
-        outcome: Next::After,
-        folds: with_run(beginning(set, past - 1), rising, k + 1 - past),
+
+    // The set after this split: the last fold that can rise does so by one, and those behind it follow one after another.
+    pub fn next(self) -> Option<FoldSet>
+        ensures { result ≡ next_folds self.choice.n self.choice.k (list_of self.set) }
+    {
+        let at = self.turn()?;
+        let rising = self.set.folds[at].0 + 1;
+        Some(with_run(beginning(self.set, at), rising, self.choice.k - at))
     }
 }

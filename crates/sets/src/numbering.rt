@@ -11,6 +11,7 @@ ghost use Rattle.paper.specs.Places.{place_of};
 ghost use Rattle.sets.specs.Work.{Tidy, Rest, Tail, Place};
 
 use crate::binomial::n_choose_k;
+use crate::choice::{Choice, Split};
 use paper::{FoldNumber, FoldSet};
 
 // The set with one fold more at its end.
@@ -26,6 +27,7 @@ pub fn with_fold(set: FoldSet, fold: usize) -> FoldSet
 }
 
 // `set`, with set `number` of the k-element sets of the n folds from `first` on behind it.
+#[tactic(auto, using(paper::proofs::Listing::choose_past))]
 fn with_rest(set: FoldSet, first: usize, n: usize, k: usize, number: u64) -> FoldSet
     requires { Rest set first n k number }
     ensures { result ≡ handed (list_of set ++ get_or (listing first n k) number []) }
@@ -41,15 +43,18 @@ fn with_rest(set: FoldSet, first: usize, n: usize, k: usize, number: u64) -> Fol
     }
 }
 
-// The folds of split `number`, of those that test k of n folds.
-pub fn set_at(n: usize, k: usize, number: u64) -> FoldSet
-    requires { (n ≤ 64) × (number < choose n k) }
-    ensures { result ≡ handed (entry n k number) }
-{
-    with_rest(FoldSet::none(), 0, n, k, number)
+impl Choice {
+    // The folds of split `number`.
+    pub fn set_at(self, number: u64) -> FoldSet
+        requires { number < choose self.n self.k }
+        ensures { result ≡ handed (entry self.n self.k number) }
+    {
+        with_rest(FoldSet::none(), 0, self.n, self.k, number)
+    }
 }
 
 // The number, among the sets of the n folds from `first` on, of what stands in `set` from place `at` on.
+#[tactic(auto, using(crate::proofs::NumberingLaws::tail_some))]
 fn number_from(set: FoldSet, k: usize, at: usize, first: usize, n: usize) -> u64
     requires { Tail set k at first n }
     ensures { Place (drop at (list_of set)) first n result }
@@ -64,10 +69,11 @@ fn number_from(set: FoldSet, k: usize, at: usize, first: usize, n: usize) -> u64
     }
 }
 
-// The number of a split.
-pub fn number_of(n: usize, k: usize, set: FoldSet) -> u64
-    requires { (n ≤ 64) × (is_split n k (list_of set) ≡ true) }
-    ensures { result ≡ place_of n k (list_of set) }
-{
-    number_from(set, k, 0, 0, n)
+impl Split {
+    // The number of the split.
+    pub fn number(self) -> u64
+        ensures { result ≡ place_of self.choice.n self.choice.k (list_of self.set) }
+    {
+        number_from(self.set, self.choice.k, 0, 0, self.choice.n)
+    }
 }

@@ -10,6 +10,7 @@ ghost use Rattle.paper.proofs.PathsMeaning.{Pth};
 ghost use Rattle.sets.specs.Work.{Ahead};
 
 use crate::binomial::n_choose_k;
+use crate::choice::Choice;
 
 // How many k-element sets of n folds hold a given one.
 fn holding(n: usize, k: usize) -> u64
@@ -20,6 +21,7 @@ fn holding(n: usize, k: usize) -> u64
 }
 
 // The number, among the k-element sets of the n folds from `first` on, of the p-th that holds g.
+#[tactic(auto, using(crate::proofs::PathLaws::hold_zero))]
 fn split_from(first: usize, n: usize, k: usize, p: u64, g: usize) -> u64
     requires { Ahead first n k p g }
     ensures { Pth (listing first n k) g p result }
@@ -35,10 +37,12 @@ fn split_from(first: usize, n: usize, k: usize, p: u64, g: usize) -> u64
     }
 }
 
-// The split that path p takes for fold g.
-pub fn split_on_path(n: usize, k: usize, p: u64, g: usize) -> u64
-    requires { (n ≤ 64) × (0 < k) × (p < paths n k) × (g < n) }
-    ensures { result ≡ split_on_path n k p g }
-{
-    split_from(0, n, k, p, g)
+impl Choice {
+    // The split that path p takes for fold g.
+    pub fn split_on_path(self, p: u64, g: usize) -> u64
+        requires { (p < paths self.n self.k) × (g < self.n) }
+        ensures { result ≡ split_on_path self.n self.k p g }
+    {
+        split_from(0, self.n, self.k, p, g)
+    }
 }

@@ -1,7 +1,7 @@
 -- Worked examples of the readings, by computation (01, "Report program"). Bytes are written as numbers: 48 is 0, 57 is 9, 45 is the minus.
 use mathlib.Core.Path.{◌≡◌, refl}
 use mathlib.Core.List.{List, [], ◌∷◌}
-use mathlib.Core.Option.{none, some}
+use Rattle.std.specs.Prelude.{None, Some}
 use Prim.Native.Nat.{ℕ}
 use lib.Ieee.{nan, binary64, of_bits}
 use lib.IntN.{pos, negsuc}
@@ -16,25 +16,25 @@ over : List ℕ
 over = 49 ∷ 56 ∷ 52 ∷ 52 ∷ 54 ∷ 55 ∷ 52 ∷ 52 ∷ 48 ∷ 55 ∷ 51 ∷ 55 ∷ 48 ∷ 57 ∷ 53 ∷ 53 ∷ 49 ∷ 54 ∷ 49 ∷ 54 ∷ []
 
 decimals :
-    (decimal_of (48 ∷ []) ≡ some 0)
-    × (decimal_of (49 ∷ 48 ∷ []) ≡ some 10)
-    × (decimal_of most ≡ some 18446744073709551615)
-    × (decimal_of over ≡ none)
-    × (decimal_of [] ≡ none)
-    × (decimal_of (48 ∷ 55 ∷ []) ≡ none)
-    × (decimal_of (43 ∷ 55 ∷ []) ≡ none)
-    × (decimal_of (55 ∷ 32 ∷ []) ≡ none)
-    × (decimal_of (65 ∷ []) ≡ none)
+    (decimal_of (48 ∷ []) ≡ Some 0)
+    × (decimal_of (49 ∷ 48 ∷ []) ≡ Some 10)
+    × (decimal_of most ≡ Some 18446744073709551615)
+    × (decimal_of over ≡ None)
+    × (decimal_of [] ≡ None)
+    × (decimal_of (48 ∷ 55 ∷ []) ≡ None)
+    × (decimal_of (43 ∷ 55 ∷ []) ≡ None)
+    × (decimal_of (55 ∷ 32 ∷ []) ≡ None)
+    × (decimal_of (65 ∷ []) ≡ None)
 unfolding decimal_of behind digit_of most over
 decimals = (refl, refl, refl, refl, refl, refl, refl, refl, refl)
 
 -- 7, -7, -0, a minus alone, two of them.
 signs :
-    (signed_of (55 ∷ []) ≡ some (pos 7))
-    × (signed_of (45 ∷ 55 ∷ []) ≡ some (negsuc 6))
-    × (signed_of (45 ∷ 48 ∷ []) ≡ none)
-    × (signed_of (45 ∷ []) ≡ none)
-    × (signed_of (45 ∷ 45 ∷ 55 ∷ []) ≡ none)
+    (signed_of (55 ∷ []) ≡ Some (pos 7))
+    × (signed_of (45 ∷ 55 ∷ []) ≡ Some (negsuc 6))
+    × (signed_of (45 ∷ 48 ∷ []) ≡ None)
+    × (signed_of (45 ∷ []) ≡ None)
+    × (signed_of (45 ∷ 45 ∷ 55 ∷ []) ≡ None)
 unfolding signed_of behind digit_of
 signs = (refl, refl, refl, refl, refl)
 
@@ -43,11 +43,11 @@ ones : ℕ → List ℕ
 ones c = 51 ∷ c ∷ c ∷ 48 ∷ 48 ∷ 48 ∷ 48 ∷ 48 ∷ 48 ∷ 48 ∷ 48 ∷ 48 ∷ 48 ∷ 48 ∷ 48 ∷ 48 ∷ []
 
 doubles :
-    (double_of (ones 70) ≡ some (of_bits binary64 0x3ff0_0000_0000_0000))
-    × (double_of (ones 102) ≡ none)
-    × (double_of (48 ∷ []) ≡ none)
-    × (double_of (55 ∷ 70 ∷ 70 ∷ 56 ∷ 48 ∷ 48 ∷ 48 ∷ 48 ∷ 48 ∷ 48 ∷ 48 ∷ 48 ∷ 48 ∷ 48 ∷ 48 ∷ 48 ∷ []) ≡ some nan)
-    × (double_of (70 ∷ 70 ∷ 70 ∷ 48 ∷ 48 ∷ 48 ∷ 48 ∷ 48 ∷ 48 ∷ 48 ∷ 48 ∷ 48 ∷ 48 ∷ 48 ∷ 48 ∷ 49 ∷ []) ≡ some nan)
+    (double_of (ones 70) ≡ Some (of_bits binary64 0x3ff0_0000_0000_0000))
+    × (double_of (ones 102) ≡ None)
+    × (double_of (48 ∷ []) ≡ None)
+    × (double_of (55 ∷ 70 ∷ 70 ∷ 56 ∷ 48 ∷ 48 ∷ 48 ∷ 48 ∷ 48 ∷ 48 ∷ 48 ∷ 48 ∷ 48 ∷ 48 ∷ 48 ∷ 48 ∷ []) ≡ Some nan)
+    × (double_of (70 ∷ 70 ∷ 70 ∷ 48 ∷ 48 ∷ 48 ∷ 48 ∷ 48 ∷ 48 ∷ 48 ∷ 48 ∷ 48 ∷ 48 ∷ 48 ∷ 48 ∷ 49 ∷ []) ≡ Some nan)
 unfolding double_of behind digit_of ones of_bits
 doubles = (refl, refl, refl, refl, refl)
 

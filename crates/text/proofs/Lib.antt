@@ -4,5 +4,4 @@ pub mod DigitLaws
 pub mod Examples
 pub mod NanLaws
 pub mod NumbersMeaning
-pub mod SignLaws
 pub mod WordLaws

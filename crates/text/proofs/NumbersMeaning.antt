@@ -3,7 +3,8 @@
 use mathlib.Core.Path.{◌≡◌, refl, sym, ap, ◌∙◌}
 use mathlib.Core.Bool.{Bool, true, false, cond, ◌||◌, not}
 use mathlib.Core.List.{List, [], ◌∷◌}
-use mathlib.Core.Option.{Option, none, some, some-injective}
+use Rattle.std.specs.Prelude.{Option, None, Some}
+use Rattle.std.proofs.lemmas.Option.{none-some, same_Some}
 use Prim.Native.Nat.{ℕ, zero, suc, ◌+◌, ◌-◌, ◌/◌, ◌%◌, ◌^◌, ◌≤◌, ◌<◌}
 use native.Mathlib.Nat.{pow-suc, pow-le-pow_right, le_refl, le_trans}
 use native.Mathlib.Omega.{arith}
@@ -21,10 +22,6 @@ use Rattle.lists.specs.AnyLaws.{never, both}
 use Rattle.text.specs.Numbers.{digit_of, behind, word_of, canonical, decimal_of, upward, downward, signed_of, double_of, glyph, last_digits_of, digit_count, decimal_text, signed_text}
 use Rattle.text.proofs.BehindLaws.{below_is, below_some}
 use Rattle.text.proofs.DigitLaws.{length_digits, behind_back, behind-only}
-
--- None is no number.
-nothing : {A X : Type 0} {a : A} {o : Option A} → o ≡ none → o ≡ some a → X
-nothing {a} {o} p q = let y : ◌≡◌ {A = ℕ} 0 1 = cc in absurd (omega arith)
 
 -- How many digits there are: they hold n, and fewer do not.
 pub count_is : (n k : ℕ) → n < 2 ^ 64 → 1 ≤ k → n < 10 ^ k → (1 < k → 10 ^ (k - 1) ≤ n) → digit_count n ≡ k
@@ -95,7 +92,7 @@ canonical-digits n (suc (suc k)) c =
     let f = lead_some (suc k) n (rw z at (c.fewest (omega arith))) c.holds in
     rw (l, ne_eqb (suc (suc k)) 1 (λ z. omega arith), lt-ltb 0 (suc (suc k)) (omega arith), ne_eqb _ 48 f)
 
-pub decimal_back : (n : ℕ) → n < 2 ^ 64 → decimal_of (decimal_text n) ≡ some n
+pub decimal_back : (n : ℕ) → n < 2 ^ 64 → decimal_of (decimal_text n) ≡ Some n
 unfolding decimal_of
 decimal_back n h =
     let c = counted n h in
@@ -113,14 +110,14 @@ lead_needed s n c t l = go (dec_le (10 ^ (length s - 1)) n)
         let one : eqb (length s) 1 ≡ false = ne_eqb (length s) 1 (λ q. omega arith) in
         never {b = eqb (length s) 1 || not (eqb (get_or s 0 0) 48)} (both {a = ltb 0 (length s)} c).1 (rw (one, eq-eqb (get_or s 0 0) 48 z))
 
-spelled_once : (s : List ℕ) (n : ℕ) → canonical s ≡ true → behind 10 0 s ≡ some n → n < 2 ^ 64 → s ≡ decimal_text n
+spelled_once : (s : List ℕ) (n : ℕ) → canonical s ≡ true → behind 10 0 s ≡ Some n → n < 2 ^ 64 → s ≡ decimal_text n
 spelled_once s n c e h =
     let d = behind-only 10 (lit< tt) s (length s) (le_refl _) n (rw (take-length s) e) in
     let t : s ≡ last_digits_of 10 (length s) n = sym (take-length s) ∙ d.0 in
     let some_byte : 0 < length s = ltb-true 0 (length s) (both {a = ltb 0 (length s)} c).0 in
     t ∙ ap (λ k. last_digits_of 10 k n) (sym (count_is n (length s) h some_byte d.1 (lead_needed s n c t)))
 
-pub decimal_only : (s : List ℕ) (n : ℕ) → decimal_of s ≡ some n → (s ≡ decimal_text n) × (n < 2 ^ 64)
+pub decimal_only : (s : List ℕ) (n : ℕ) → decimal_of s ≡ Some n → (s ≡ decimal_text n) × (n < 2 ^ 64)
 unfolding decimal_of
 decimal_only s n e = go (canonical s) refl
   where
@@ -128,51 +125,51 @@ decimal_only s n e = go (canonical s) refl
     go true c =
         let r = below_some (2 ^ 64) (behind 10 0 s) n (rw c at e) in
         (spelled_once s n c r.0 r.1, r.1)
-    go false c = nothing {o = none} refl (rw c at e)
+    go false c = absurd (none-some _ (rw c at e))
 
 -- A decimal begins with no minus.
-no_minus : (s : List ℕ) (n : ℕ) → decimal_of s ≡ some n → eqb (get_or s 0 0) 45 ≡ false
+no_minus : (s : List ℕ) (n : ℕ) → decimal_of s ≡ Some n → eqb (get_or s 0 0) 45 ≡ false
 unfolding decimal_of behind digit_of
 no_minus [] n e = refl
-no_minus (c ∷ s) n e = ne_eqb c 45 (λ q. nothing (go q (canonical (c ∷ s))) e)
+no_minus (c ∷ s) n e = ne_eqb c 45 (λ q. none-some n (sym (go q (canonical (c ∷ s))) ∙ e))
   where
-    go : c ≡ 45 → (t : Bool) → cond t (word_of 10 (c ∷ s)) none ≡ none
+    go : c ≡ 45 → (t : Bool) → cond t (word_of 10 (c ∷ s)) None ≡ None
     go q true = rw q
     go q false = refl
 
-pub signed_back : (z : ℤ) → mag z < 2 ^ 63 → signed_of (signed_text z) ≡ some z
+pub signed_back : (z : ℤ) → mag z < 2 ^ 63 → signed_of (signed_text z) ≡ Some z
 unfolding signed_of
 signed_back (pos n) h =
     let d = decimal_back n (omega arith) in
     rw (no_minus (decimal_text n) n d, d, lt-ltb n (2 ^ 63) h)
 signed_back (negsuc k) h = rw (decimal_back (suc k) (omega arith), lt-ltb k (2 ^ 63) h)
 
-pub signed_only : (s : List ℕ) (z : ℤ) → signed_of s ≡ some z → (s ≡ signed_text z) × (mag z < 2 ^ 63)
+pub signed_only : (s : List ℕ) (z : ℤ) → signed_of s ≡ Some z → (s ≡ signed_text z) × (mag z < 2 ^ 63)
 unfolding signed_of
 signed_only s z e = go (eqb (get_or s 0 0) 45) refl
   where
-    up : (o : Option ℕ) → decimal_of s ≡ o → upward o ≡ some z → (s ≡ signed_text z) × (mag z < 2 ^ 63)
-    up none d u = nothing {o = none} refl u
-    up (some n) d u = small (dec_lt n (2 ^ 63))
+    up : (o : Option ℕ) → decimal_of s ≡ o → upward o ≡ Some z → (s ≡ signed_text z) × (mag z < 2 ^ 63)
+    up None d u = absurd (none-some _ u)
+    up (Some n) d u = small (dec_lt n (2 ^ 63))
       where
         small : Dec (n < 2 ^ 63) → (s ≡ signed_text z) × (mag z < 2 ^ 63)
         small (yes l) =
-            let q : pos n ≡ z = some-injective (pos n) z (rw (lt-ltb n (2 ^ 63) l) at u) in
+            let q : pos n ≡ z = same_Some (pos n) z (rw (lt-ltb n (2 ^ 63) l) at u) in
             rw (← q) ((decimal_only s n d).0, l)
-        small (no g) = nothing {o = none} refl (rw (le-ltb n (2 ^ 63) (omega arith)) at u)
+        small (no g) = absurd (none-some _ (rw (le-ltb n (2 ^ 63) (omega arith)) at u))
 
-    down : (c : ℕ) (t : List ℕ) → s ≡ c ∷ t → c ≡ 45 → (o : Option ℕ) → decimal_of t ≡ o → downward o ≡ some z → (s ≡ signed_text z) × (mag z < 2 ^ 63)
-    down c t w m none d u = nothing {o = none} refl u
-    down c t w m (some zero) d u = nothing {o = none} refl u
-    down c t w m (some (suc k)) d u = small (dec_lt k (2 ^ 63))
+    down : (c : ℕ) (t : List ℕ) → s ≡ c ∷ t → c ≡ 45 → (o : Option ℕ) → decimal_of t ≡ o → downward o ≡ Some z → (s ≡ signed_text z) × (mag z < 2 ^ 63)
+    down c t w m None d u = absurd (none-some _ u)
+    down c t w m (Some zero) d u = absurd (none-some _ u)
+    down c t w m (Some (suc k)) d u = small (dec_lt k (2 ^ 63))
       where
         small : Dec (k < 2 ^ 63) → (s ≡ signed_text z) × (mag z < 2 ^ 63)
         small (yes l) =
-            let q : negsuc k ≡ z = some-injective (negsuc k) z (rw (lt-ltb k (2 ^ 63) l) at u) in
+            let q : negsuc k ≡ z = same_Some (negsuc k) z (rw (lt-ltb k (2 ^ 63) l) at u) in
             rw (← q) (w ∙ rw m (ap (λ v. 45 ∷ v) (decimal_only t (suc k) d).0), l)
-        small (no g) = nothing {o = none} refl (rw (le-ltb k (2 ^ 63) (omega arith)) at u)
+        small (no g) = absurd (none-some _ (rw (le-ltb k (2 ^ 63) (omega arith)) at u))
 
-    minus : (v : List ℕ) → s ≡ v → eqb (get_or v 0 0) 45 ≡ true → downward (decimal_of (drop 1 v)) ≡ some z → (s ≡ signed_text z) × (mag z < 2 ^ 63)
+    minus : (v : List ℕ) → s ≡ v → eqb (get_or v 0 0) 45 ≡ true → downward (decimal_of (drop 1 v)) ≡ Some z → (s ≡ signed_text z) × (mag z < 2 ^ 63)
     minus [] w m u = never {b = false} m refl
     minus (c ∷ t) w m u = down c t w (eqb-true c 45 m) (decimal_of t) refl u
 
@@ -180,26 +177,26 @@ signed_only s z e = go (eqb (get_or s 0 0) 45) refl
     go true m = minus s refl m (rw m at e)
     go false m = up (decimal_of s) refl (rw m at e)
 
-pub double_back : (bits : ℕ) → bits < 2 ^ 64 → double_of (last_digits_of 16 16 bits) ≡ some (of_bits binary64 bits)
+pub double_back : (bits : ℕ) → bits < 2 ^ 64 → double_of (last_digits_of 16 16 bits) ≡ Some (of_bits binary64 bits)
 unfolding double_of
 double_back bits h =
     rw (length_digits 16 16 bits, behind_back 16 (lit< tt) (lit≤ tt) 16 bits h, below_is (2 ^ 64) bits h)
 
-pub double_only : (s : List ℕ) (x : Float) → double_of s ≡ some x → (bits : ℕ) × (s ≡ last_digits_of 16 16 bits) × (bits < 2 ^ 64) × (x ≡ of_bits binary64 bits)
+pub double_only : (s : List ℕ) (x : Float) → double_of s ≡ Some x → (bits : ℕ) × (s ≡ last_digits_of 16 16 bits) × (bits < 2 ^ 64) × (x ≡ of_bits binary64 bits)
 unfolding double_of
 double_only s x e = go (eqb (length s) 16) refl
   where
     word : (o : Option ℕ) → length s ≡ 16 → word_of 16 s ≡ o → (bits : ℕ) × (s ≡ last_digits_of 16 16 bits) × (bits < 2 ^ 64) × (x ≡ of_bits binary64 bits)
-    word none l w = nothing {o = none} refl (rw (eq-eqb (length s) 16 l, w) at e)
-    word (some bits) l w =
+    word None l w = absurd (none-some _ (rw (eq-eqb (length s) 16 l, w) at e))
+    word (Some bits) l w =
         let r = below_some (2 ^ 64) (behind 16 0 s) bits w in
         let d = behind-only 16 (lit< tt) s (length s) (le_refl _) bits (rw (take-length s) r.0) in (
           bits,
           sym (take-length s) ∙ d.0 ∙ ap (λ k. last_digits_of 16 k bits) l,
           r.1,
-          sym (some-injective (of_bits binary64 bits) x (rw (eq-eqb (length s) 16 l, w) at e)),
+          sym (same_Some (of_bits binary64 bits) x (rw (eq-eqb (length s) 16 l, w) at e)),
         )
 
     go : (t : Bool) → eqb (length s) 16 ≡ t → (bits : ℕ) × (s ≡ last_digits_of 16 16 bits) × (bits < 2 ^ 64) × (x ≡ of_bits binary64 bits)
     go true l = word (word_of 16 s) (eqb-true (length s) 16 l) refl
-    go false l = nothing {o = none} refl (rw l at e)
+    go false l = absurd (none-some _ (rw l at e))

@@ -1,3 +1,2 @@
 -- What bytes spell. Nothing here knows of splits.
-pub mod Answers
 pub mod Numbers

@@ -4,14 +4,15 @@
 // - a time is a signed 64-bit number.
 #![tactic(auto)]
 
-ghost use Rattle.std.specs.Prelude.{◌≡◌, ◌&&◌, not, ◌<◌, length};
+ghost use Rattle.std.specs.Prelude.{◌≡◌, ◌&&◌, length};
 ghost use Rattle.std.specs.Int.Signed.{le_z};
-ghost use Rattle.lists.specs.Base.{bit};
-ghost use Rattle.paper.specs.Spans.{table, span_of, lies_in, drops};
+ghost use Rattle.paper.specs.Spans.{span_of, lies_in, drops};
 ghost use Rattle.paper.specs.Overlaps.{train_flags};
-ghost use Rattle.train_times.specs.Lent.{Pair, Lent, dropped_by_some};
+ghost use Rattle.spans.specs.Tables.{table_of, rows_in};
+ghost use Rattle.train_times.specs.Dropped.{dropped_by_some};
 
 use paper::Span;
+use spans::Table;
 
 // Does a time lie in a span?
 fn lies_in(x: i64, t: Span) -> bool
@@ -31,63 +32,22 @@ fn holds(a: Span, t: Span) -> bool
 fn dropped(t: Span, a: Span) -> bool
     ensures { result ≡ drops t a }
 {
-    if lies_in(a.start, t) {
-        return true;
-    }
-    if lies_in(a.end, t) {
-        return true;
-    }
-    holds(a, t)
-}
-
-// The span of row i.
-fn span_at(starts: &[i64], ends: &[i64], i: usize) -> Span
-    requires { (i < length starts.now) × (i < length ends.now) }
-    ensures { result ≡ span_of starts.now ends.now i }
-{
-    Span {
-        start: starts[i],
-        end: ends[i],
-    }
+    lies_in(a.start, t) || lies_in(a.end, t) || holds(a, t)
 }
 
 // Is span a dropped for some test span?
-fn dropped_by_some(a: Span, starts: &[i64], ends: &[i64]) -> bool
-    requires { Pair starts.now ends.now }
-    ensures { result ≡ dropped_by_some starts.now ends.now a }
+fn dropped_by_some(a: Span, tests: &Table) -> bool
+    ensures { result ≡ dropped_by_some tests.now.starts.now tests.now.ends.now a }
 {
-    let mut j = 0;
-    while j < starts.len() {
-        let t = span_at(starts, ends, j);
-        if dropped(t, a) {
-            return true;
-        }
-        j += 1;
-    }
-    false
+    (0..tests.len()).any(|j| dropped(tests.span(j), a))
 }
 
-// 1 where span a is kept, 0 where it is dropped.
-fn flag(a: Span, starts: &[i64], ends: &[i64]) -> u8
-    requires { Pair starts.now ends.now }
-    ensures { result ≡ bit (not (dropped_by_some starts.now ends.now a)) }
+// Writes the flag of each row of a table beside given test spans: 1 where its span is kept.
+pub fn write_flags(table: &Table, tests: &Table, flags: &mut [u8])
+    requires { length flags.old ≡ rows_in table.now }
+    ensures { flags.new ≡ train_flags (table_of table.now) (rows_in tests.now) (span_of tests.now.starts.now tests.now.ends.now) }
 {
-    if dropped_by_some(a, starts, ends) {
-        0
-    } else {
-        1
-    }
-}
-
-// Writes the flag of each row of a table beside given test spans.
-pub fn write_flags(starts: &[i64], ends: &[i64], tests: &[i64], testends: &[i64], flags: &mut [u8])
-    requires { Lent starts.now ends.now tests.now testends.now flags.old }
-    ensures { flags.new ≡ train_flags (table starts.now ends.now) (length tests.now) (span_of tests.now testends.now) }
-{
-    let mut i = 0;
-    while i < flags.len() {
-        let a = span_at(starts, ends, i);
-        flags[i] = flag(a, tests, testends);
-        i += 1;
+    for (i, flag) in flags.iter_mut().enumerate() {
+        *flag = u8::from(!dropped_by_some(table.span(i), tests));
     }
 }

@@ -9,128 +9,93 @@ mod walk;
 
 use std::io;
 
-fn walks(rt: &impl Print) -> io::Result<()> {
-    walk::show_walk(rt, 2, 1)?;
-    walk::show_walk(rt, 4, 2)?;
-    walk::show_walk(rt, 5, 4)?;
-    walk::show_walk(rt, 6, 3)
-}
+// N and k of the walks.
+const WALKS: [(usize, usize); 8] = [
+    (2, 1),
+    (4, 2),
+    (5, 4),
+    (6, 3),
+    (10, 5),
+    (13, 2),
+    (11, 5),
+    (64, 1),
+];
 
-fn more_walks(rt: &impl Print) -> io::Result<()> {
-    walk::show_walk(rt, 10, 5)?;
-    walk::show_walk(rt, 13, 2)?;
-    walk::show_walk(rt, 11, 5)?;
-    walk::show_walk(rt, 64, 1)
-}
+// N and k that are refused, those at an edge among them.
+const REFUSED: [(usize, usize); 7] = [(63, 29), (64, 27), (65, 2), (65, 0), (1, 1), (0, 5), (8, 8)];
 
-// The first, a middle and the last split, and the number past it.
-fn splits_of(
-    rt: &impl Print,
-    n: usize,
-    k: usize,
-    middle: u64,
-    last: u64,
-    past: u64,
-) -> io::Result<()> {
+// How many splits and paths, and some of the splits.
+fn splits_of(rt: &impl Print, n: usize, k: usize, numbers: [u64; 4]) -> io::Result<()> {
     lines::show_count(rt, n, k)?;
-    lines::show_split(rt, n, k, 0)?;
-    lines::show_split(rt, n, k, middle)?;
-    lines::show_split(rt, n, k, last)?;
-    lines::show_split(rt, n, k, past)
+    for s in numbers {
+        lines::show_split(rt, n, k, s)?;
+    }
+    Ok(())
 }
 
-// The first, a middle and the last path, and the number past it.
-fn paths_of(
-    rt: &impl Print,
-    n: usize,
-    k: usize,
-    middle: u64,
-    last: u64,
-    past: u64,
-) -> io::Result<()> {
-    lines::show_path(rt, n, k, 0)?;
-    lines::show_path(rt, n, k, middle)?;
-    lines::show_path(rt, n, k, last)?;
-    lines::show_path(rt, n, k, past)
+fn paths_of(rt: &impl Print, n: usize, k: usize, numbers: [u64; 4]) -> io::Result<()> {
+    for p in numbers {
+        lines::show_path(rt, n, k, p)?;
+    }
+    Ok(())
 }
 
-// The largest k that are accepted.
+// The largest k that are accepted: of splits and of paths the first, a middle and the last number, and the one past it.
 fn edges(rt: &impl Print) -> io::Result<()> {
-    splits_of(
-        rt,
-        62,
-        31,
+    let splits = [
+        0,
         232714176627630544,
         465428353255261087,
         465428353255261088,
-    )?;
-    paths_of(
-        rt,
-        62,
-        31,
+    ];
+    let paths = [
+        0,
         100000000000000000,
         232714176627630543,
         232714176627630544,
-    )?;
-    splits_of(
-        rt,
-        63,
-        28,
+    ];
+    splits_of(rt, 62, 31, splits)?;
+    paths_of(rt, 62, 31, paths)?;
+    let splits = [
+        0,
         400000000000000000,
         629308289804197436,
         629308289804197437,
-    )?;
-    paths_of(
-        rt,
-        63,
-        28,
+    ];
+    let paths = [
+        0,
         123456789012345678,
         279692573246309971,
         279692573246309972,
-    )?;
-    splits_of(
-        rt,
-        64,
-        26,
+    ];
+    splits_of(rt, 63, 28, splits)?;
+    paths_of(rt, 63, 28, paths)?;
+    let splits = [
+        0,
         500000000000000000,
         601557853127198687,
         601557853127198688,
-    )?;
-    paths_of(
-        rt,
-        64,
-        26,
+    ];
+    let paths = [
+        0,
         200000000000000000,
         244382877832924466,
         244382877832924467,
-    )
-}
-
-fn refusals(rt: &impl Print) -> io::Result<()> {
-    lines::show_count(rt, 63, 29)?;
-    lines::show_count(rt, 64, 27)?;
-    lines::show_count(rt, 65, 2)?;
-    lines::show_count(rt, 65, 0)?;
-    lines::show_count(rt, 1, 1)
-}
-
-fn more_refusals(rt: &impl Print) -> io::Result<()> {
-    lines::show_count(rt, 0, 5)?;
-    lines::show_count(rt, 8, 8)?;
-    lines::show_split(rt, 63, 29, 0)?;
-    lines::show_path(rt, 65, 2, 0)
-}
-
-fn paths_of_4(rt: &impl Print) -> io::Result<()> {
-    lines::show_count(rt, 4, 2)?;
-    paths_of(rt, 4, 2, 1, 2, 3)
+    ];
+    splits_of(rt, 64, 26, splits)?;
+    paths_of(rt, 64, 26, paths)
 }
 
 fn main(rt: HostRuntime) -> io::Result<()> {
-    walks(&rt)?;
-    more_walks(&rt)?;
-    paths_of_4(&rt)?;
+    for (n, k) in WALKS {
+        walk::show_walk(&rt, n, k)?;
+    }
+    lines::show_count(&rt, 4, 2)?;
+    paths_of(&rt, 4, 2, [0, 1, 2, 3])?;
     edges(&rt)?;
-    refusals(&rt)?;
-    more_refusals(&rt)
+    for (n, k) in REFUSED {
+        lines::show_count(&rt, n, k)?;
+    }
+    lines::show_split(&rt, 63, 29, 0)?;
+    lines::show_path(&rt, 65, 2, 0)
 }

@@ -6,17 +6,12 @@
 #![tactic(auto)]
 
 ghost use Rattle.std.specs.Prelude.{◌≡◌, ◌≤◌, true};
+ghost use Rattle.paper.specs.Answers.{said};
 ghost use Rattle.paper.specs.Checks.{checked};
 ghost use Rattle.paper.specs.Width.{is_fraction, width_of};
-ghost use Rattle.width.specs.Answer.{said_width, width_checks};
+ghost use Rattle.width.specs.Answer.{width_checks};
 
 use paper::{Refusal, Settings};
-
-#[derive(Clone, Copy)]
-pub enum Width {
-    Rows(usize),
-    Refused(Refusal),
-}
 
 // Does x lie in [0,1)? -0.0 does, a NaN does not.
 pub fn is_fraction(x: f64) -> bool
@@ -26,21 +21,22 @@ pub fn is_fraction(x: f64) -> bool
 }
 
 // How many rows an embargo covers, for a fraction of n rows.
-pub fn embargo_width(fraction: f64, n: usize) -> Width
-    ensures { said_width result ≡ checked (width_checks fraction n) (width_of fraction n) }
+pub fn embargo_width(fraction: f64, n: usize) -> Result<usize, Refusal>
+    ensures { said result ≡ checked (width_checks fraction n) (width_of fraction n) }
 {
     if Settings::MAX_ROWS < n {
-        return Width::Refused(Refusal::TooManyRows);
+        return Err(Refusal::TooManyRows);
     }
     if is_fraction(fraction) {
-        Width::Rows(rounded_up(fraction, n))
+        Ok(rounded_up(fraction, n))
     } else {
-        Width::Refused(Refusal::InvalidEmbargo(fraction))
+        Err(Refusal::InvalidEmbargo(fraction))
     }
 }
 
-// The product, rounded once to the nearest double, and then up to a whole number. It is n at most.
-fn rounded_up(fraction: f64, n: usize) -> usize
+// The width of a fraction that has been checked: the product, rounded once to the nearest double, and then up to a whole
+// number. It is n at most.
+pub fn rounded_up(fraction: f64, n: usize) -> usize
     requires fraction_value { is_fraction fraction ≡ true }
     requires n_bound { n ≤ 1048576 }
     ensures { result ≡ width_of fraction n }

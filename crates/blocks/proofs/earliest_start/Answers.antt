@@ -1,19 +1,15 @@
--- One time more: the run so far is joined with it.
-use Rattle.std.proofs.Common.{rules, arith}
+use mathlib.Core.Path.{◌≡◌, ◌∙◌}
+use Rattle.std.proofs.Common.{rules, arith, ◌+◌, ◌-◌, pos, fold, get_or, take, drop}
+use Rattle.lists.specs.SignedLaws.{read}
 use Rattle.paper.proofs.Times.{earlier}
-use Rattle.blocks.specs.Held.{time}
-use Rattle.blocks.proofs.RunLaws.{run_one, run_more}
+use Rattle.blocks.proofs.RunLaws.{folded}
 use Rattle.blocks.proofs.earliest_start.Goals as goal
 
-pub loop-i-init : goal.loop-i-init
-loop-i-init c = (search rules, search rules, run_one earlier (time c.args.starts.now) c.args.b (omega arith))
-
-pub loop-i-preserved : goal.loop-i-preserved
-loop-i-preserved c =
-    let l = c.loop-i in
-    let r = c.earlier_of-earliest in (
-      search rules,
-      search rules,
-      run_more earlier (time c.args.starts.now) c.args.b l.i _ r.result l.invariant.0 (omega arith) (omega arith)
-          l.invariant.2 r.ensures,
-    )
+pub returns : goal.returns
+unfolding earlier
+returns c =
+    let l = c.args.starts.now in
+    let b = c.args.rows.first in
+    let e = c.args.rows.past in
+    let run : c.fold.result ≡ fold earlier (get_or l b (pos 0)) (take (e - (b + 1)) (drop (b + 1) l)) = search rules in
+    read c.fold.result (omega arith) ∙ run ∙ folded earlier (pos 0) l b e (omega arith) (omega arith)

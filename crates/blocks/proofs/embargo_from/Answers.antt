@@ -8,7 +8,6 @@ use lib.ListN.{length}
 use lib.Signed.{mag, lt_z}
 use mir.Syntax.{w64}
 use mir.Val.{to_z, of_z}
-use borrow.Author.Rules.{rules}
 use Rattle.lists.specs.FirstLaws.{first_skip, first_hit, first_end}
 use Rattle.lists.specs.IntegerLaws.{lt_z_above, lt_z_not}
 use Rattle.lists.specs.SignedLaws.{read, lt_read}
@@ -31,7 +30,7 @@ returns-then-latest-starts c =
     let g = c.args in
     let fits = c.ranges.latest.sfits in
     sym
-    (rw (read g.latest fits) at c.loop-i.invariant.1
+    (rw (read g.latest fits) at c.loop-i.invariant
     ∙ first_hit (after g.starts.now g.latest) (length g.starts.now) c.loop-i.i (omega arith)
     (after_yes g.latest (time g.starts.now c.loop-i.i) fits (omega arith) c.if-latest-starts.true))
 
@@ -44,17 +43,16 @@ after_no l s h k t = ap not (lt_z_not l s (sym (lt_read l s h k) ∙ t))
 pub loop-i-preserved : goal.loop-i-preserved
 loop-i-preserved c =
     let g = c.args in
-    let fits = c.ranges.latest.sfits in (
-      search rules,
-      c.loop-i.invariant.1
-          ∙ first_skip (after g.starts.now (to_z w64 (of_z w64 g.latest))) (length g.starts.now) c.loop-i.i (omega arith)
-          (rw (read g.latest fits)
-          (after_no g.latest (time g.starts.now c.loop-i.i) fits (omega arith) c.if-latest-starts.false)),
-    )
+    let fits = c.ranges.latest.sfits in
+    c.loop-i.invariant
+    ∙ first_skip (after g.starts.now (to_z w64 (of_z w64 g.latest))) (length g.starts.now) c.loop-i.i (omega arith)
+    (rw (read g.latest fits)
+    (after_no g.latest (time g.starts.now c.loop-i.i) fits (omega arith) c.if-latest-starts.false))
 
 pub returns : goal.returns
 returns c =
     let g = c.args in
+    let z : c.loop-i.i ≡ length g.starts.now = omega arith in
     sym
-    (rw (read g.latest c.ranges.latest.sfits) at c.loop-i.invariant.1
-    ∙ first_end (after g.starts.now g.latest) (length g.starts.now) c.loop-i.i (omega arith))
+    (rw (read g.latest c.ranges.latest.sfits, z) at c.loop-i.invariant
+    ∙ first_end (after g.starts.now g.latest) (length g.starts.now) (length g.starts.now) (omega arith))

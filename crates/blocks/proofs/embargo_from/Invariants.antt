@@ -1,13 +1,7 @@
 -- A search from row e on. The code's test is the negation of the paper's.
 use mathlib.Core.Path.{◌≡◌}
-use Prim.Native.Nat.{◌-◌, ◌≤◌}
-use lib.ListN.{length}
 use Rattle.blocks.specs.Held.{steps_to}
 use Rattle.blocks.proofs.embargo_from.Given as goal
 
 abbrev pub invariant-loop-i : goal.invariant-loop-i
-invariant-loop-i l =
-    (l.i ≤ length l.starts) × (steps_to l.starts l.latest l.e ≡ steps_to l.starts l.latest l.i)
-
-abbrev pub decreases-loop-i : goal.decreases-loop-i
-decreases-loop-i l = length l.starts - l.i
+invariant-loop-i l = steps_to l.starts l.latest l.e ≡ steps_to l.starts l.latest l.i

@@ -8,7 +8,7 @@ use Rattle.blocks.proofs.lower.Goals as goal
 pub returns-in-Window : goal.returns-in-Window
 returns-in-Window c =
     let g = c.args in
-    read (time g.starts.now g.b) (omega arith) ∙ rw c.in-Window.is
+    read (time g.starts.now g.rows.first) (omega arith) ∙ rw c.in-Window.is
 
 pub returns-in-Pair : goal.returns-in-Pair
 returns-in-Pair c =

@@ -1,15 +1,14 @@
 -- Each range is joined to the blocks of those before it: `joins_more`.
 use mathlib.Core.Path.{◌≡◌}
-use Prim.Native.Nat.{◌-◌, ◌≤◌}
+use Prim.Native.Nat.{◌≤◌}
 use lib.ListN.{length}
-use Rattle.blocks.specs.Held.{nth}
+use Rattle.blocks.specs.Held.{firsts, pasts}
 use Rattle.blocks.specs.Joined.{Joins}
 use Rattle.blocks.proofs.merge_adjacent.Given as goal
 
-abbrev pub invariant-loop-j : goal.invariant-loop-j
-invariant-loop-j l =
-    (l.j ≤ l.count) × (l.blocks ≤ l.j) × (length l.first ≡ 64) × (length l.past ≡ 64)
-    × Joins (nth l.from) (nth l.to) l.j (nth l.first) (nth l.past) l.blocks
-
-abbrev pub decreases-loop-j : goal.decreases-loop-j
-decreases-loop-j l = l.count - l.j
+abbrev pub invariant-loop-range : goal.invariant-loop-range
+invariant-loop-range l = record {
+  few : l.blocks ≤ l.range-index;
+  room : length l.buffer ≡ 64;
+  joins : Joins (firsts l.ranges) (pasts l.ranges) l.range-index (firsts l.buffer) (pasts l.buffer) l.blocks;
+}

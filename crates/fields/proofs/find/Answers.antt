@@ -1,26 +1,13 @@
-use mathlib.Core.Path.{refl, sym, ◌∙◌}
+-- The search in what stands from the place on; past the end there is none.
 use native.Mathlib.Omega.{arith}
-use borrow.Author.Tests.{eq-eqb, ne_eqb}
-use Rattle.lists.specs.FirstLaws.{first_skip, first_hit, first_end}
-use Rattle.fields.specs.Parts.{find_from}
-use Rattle.fields.proofs.find.Invariants.{holds}
+use Rattle.fields.proofs.FindLaws.{find_is, find_past}
 use Rattle.fields.proofs.find.Goals as goal
 
-pub loop-i-init : goal.loop-i-init
-unfolding find_from
-loop-i-init c = refl
-
-pub returns-then-s-i : goal.returns-then-s-i
-returns-then-s-i c =
-    let g = c.args in
-    sym (c.loop-i.invariant ∙ first_hit (holds g.s.now g.byte) _ c.loop-i.i (omega arith) (eq-eqb _ _ c.if-s-i.true))
-
-pub loop-i-preserved : goal.loop-i-preserved
-loop-i-preserved c =
-    let g = c.args in
-    c.loop-i.invariant ∙ first_skip (holds g.s.now g.byte) _ c.loop-i.i (omega arith) (ne_eqb _ _ c.if-s-i.false)
+pub returns-in_default : goal.returns-in_default
+returns-in_default c = find_past c.args.byte c.args.s.now c.args.from (omega (arith, c.in_default.ensures.lookup))
 
 pub returns : goal.returns
 returns c =
     let g = c.args in
-    sym (c.loop-i.invariant ∙ first_end (holds g.s.now g.byte) _ c.loop-i.i (omega arith))
+    let r = c.in-Some.ensures.lookup.0 in
+    rw c.unwrap_or.ensures (find_is g.byte g.s.now g.from c.in-Some.rest.now c.first.result r.0 r.2 c.first.ensures)

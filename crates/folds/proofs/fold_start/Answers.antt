@@ -12,4 +12,4 @@ overflow_add-result c = omega (arith, even_border-le c.args.n c.args.folds c.arg
 
 pub returns : goal.returns
 returns c =
-    rw c.least.ensures (sym (even_border_closed c.args.n c.args.folds c.args.f))
+    rw c.min.ensures (sym (even_border_closed c.args.n c.args.folds c.args.f))

@@ -1,6 +1,8 @@
-use mathlib.Core.Path.{◌≡◌}
+use mathlib.Core.Path.{◌≡◌, ap, ◌∙◌}
 use native.Mathlib.Omega.{arith}
 use borrow.Author.Rules.{rules}
+use lib.ListN.{length, take}
+use Rattle.std.proofs.lemmas.List.{get_or-take, length-take-le}
 use Rattle.lists.specs.StoreLaws.{stored_up}
 use Rattle.paper.specs.Folds.{even_borders}
 use Rattle.paper.specs.Handed.{list_of}
@@ -9,41 +11,40 @@ use Rattle.layouts.proofs.LayoutLaws.{set_below, set_begin, set_end}
 use Rattle.layouts.proofs.fold_ranges.Goals as goal
 
 pub loop-j-init : goal.loop-j-init
-loop-j-init c = (
-  search rules,
-  search rules,
-  search rules,
-  record { begin = λ k h. absurd (omega arith); end = λ k h. absurd (omega arith) },
-)
+loop-j-init c = record {
+  room = search rules;
+  ranges = record { begin = λ k h. absurd (omega arith); end = λ k h. absurd (omega arith) };
+}
 
-pub first_row-requires : goal.first_row-requires
-first_row-requires c =
-    set_below c.requires.set_in c.loop-j.j (omega arith)
-
-pub row_past-requires : goal.row_past-requires
-row_past-requires c =
-    set_below c.requires.set_in c.loop-j.j (omega arith)
+pub fold_rows-requires : goal.fold_rows-requires
+fold_rows-requires c = set_below c.requires c.loop-j.j (omega arith)
 
 pub loop-j-preserved : goal.loop-j-preserved
 loop-j-preserved c =
-    let w = c.requires.set_in in
+    let w = c.requires in
     let bs = even_borders c.args.n c.args.folds in
     let fs = list_of c.args.set in
-    let j = c.loop-j.j in (
-      search rules,
-      search rules,
-      search rules,
-      record {
-        begin =
-            stored_up (λ k v. v ≡ fold_from bs fs k) c.loop-j.from 0 j _ (omega arith)
-            (set_begin w j (omega arith) _ c.first_row.ensures) c.loop-j.invariant.3.begin;
-        end =
-            stored_up (λ k v. v ≡ fold_to bs fs k) c.loop-j.to 0 j _ (omega arith)
-            (set_end w j (omega arith) _ c.row_past.ensures) c.loop-j.invariant.3.end;
-      },
-    )
+    let l = c.loop-j in
+    let e = c.fold_rows.ensures in
+    record {
+      room = search rules;
+      ranges =
+          record {
+            begin =
+                stored_up (λ k r. r.first ≡ fold_from bs fs k) l.buffer _ l.j _ (omega arith)
+                (set_begin w l.j (omega arith) _ (ap (λ r. r.first) e)) l.invariant.ranges.begin;
+            end =
+                stored_up (λ k r. r.past ≡ fold_to bs fs k) l.buffer _ l.j _ (omega arith)
+                (set_end w l.j (omega arith) _ (ap (λ r. r.past) e)) l.invariant.ranges.end;
+          };
+    }
 
-pub returns : goal.returns
-returns c =
-    let z : c.loop-j.j ≡ c.args.set.count = omega arith in
-    rw z at c.loop-j.invariant.3
+pub returns-clause-ranges : goal.returns-clause-ranges
+returns-clause-ranges c =
+    let l = c.loop-j in
+    let n = c.args.set.count in
+    let filled : length (take n c.args.set.folds) ≡ n = length-take-le n c.args.set.folds (omega arith) in
+    record {
+      begin = λ k h. ap (λ r. r.first) (get_or-take n l.buffer k _ h) ∙ l.invariant.ranges.begin k (omega arith);
+      end = λ k h. ap (λ r. r.past) (get_or-take n l.buffer k _ h) ∙ l.invariant.ranges.end k (omega arith);
+    }

@@ -1,15 +1,12 @@
--- Two arrays are filled place by place with the borders of the folds.
+-- The buffer is filled place by place with the rows of the folds.
 use mathlib.Core.Path.{◌≡◌}
-use Prim.Native.Nat.{◌-◌, ◌≤◌}
 use lib.ListN.{length}
-use Rattle.blocks.specs.Held.{nth}
+use Rattle.blocks.specs.Held.{firsts, pasts}
 use Rattle.layouts.specs.Tested.{RangesOf}
 use Rattle.layouts.proofs.fold_ranges.Given as goal
 
 abbrev pub invariant-loop-j : goal.invariant-loop-j
-invariant-loop-j l =
-    (l.j ≤ l.count) × (length l.from ≡ 64) × (length l.to ≡ 64)
-    × RangesOf l.n l.folds (record { folds = l.list; count = l.count }) (nth l.from) (nth l.to) l.j
-
-abbrev pub decreases-loop-j : goal.decreases-loop-j
-decreases-loop-j l = l.count - l.j
+invariant-loop-j l = record {
+  room : length l.buffer ≡ 64;
+  ranges : RangesOf l.n l.folds l.fn.set (firsts l.buffer) (pasts l.buffer) l.j;
+}

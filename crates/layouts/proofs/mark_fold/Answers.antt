@@ -1,23 +1,24 @@
 -- The fold is one range, from its border to the next.
-use mathlib.Core.Path.{refl}
-use lib.ListN.{length}
-use Rattle.paper.specs.Spans.{table}
-use Rattle.blocks.specs.Held.{rule_of}
+use mathlib.Core.Path.{refl, ap}
+use Rattle.spans.specs.Tables.{table_of, rows_in}
+use Rattle.paper.specs.Rules.{rule_of}
 use Rattle.layouts.proofs.LayoutLaws.{rewritten, fold-fits, kfold_marks_lem}
 use Rattle.layouts.proofs.mark_fold.Goals as goal
 
 pub mark_range-requires : goal.mark_range-requires
 mark_range-requires c =
+    let g = c.args in
     record {
       accepted = c.requires.accepted;
-      b_lt_e =
-          rw (c.row_past-e.ensures, c.first_row-b.ensures)
-          (fold-fits (length c.args.starts.now) c.args.folds c.args.fold.0 c.requires.fold_in);
+      rows_in_bounds =
+          rw (c.fold_rows-rows.ensures, c.len-used.ensures) (fold-fits (rows_in g.table.now) g.folds g.fold.0 c.requires.fold_in);
     }
 
 pub returns : goal.returns
 returns c =
+    let g = c.args in
+    let rows = rw c.len-used.ensures at c.fold_rows-rows.ensures in
     rewritten _ _ _ _
-    (kfold_marks_lem (length c.args.starts.now) c.args.folds c.args.fold.0 c.requires.fold_in _ _
-    c.first_row-b.ensures c.row_past-e.ensures (rule_of c.args.rule) (table c.args.starts.now c.args.ends.now) c.args.width refl)
-    c.mark_range.ensures
+    (kfold_marks_lem (rows_in g.table.now) g.folds g.fold.0 c.requires.fold_in _ _ (ap (λ r. r.first) rows)
+    (ap (λ r. r.past) rows) (rule_of g.rule) (table_of g.table.now) g.width refl)
+    (rw c.len-used.ensures at c.mark_range.ensures)

@@ -1,24 +1,25 @@
--- One range, in the first place of two arrays.
+-- One range, in a list of its own.
 use mathlib.Core.Path.{refl}
 use native.Mathlib.Omega.{arith}
-use lib.ListN.{length}
-use Rattle.paper.specs.Spans.{table}
-use Rattle.blocks.specs.Held.{rule_of}
+use Rattle.spans.specs.Tables.{table_of, rows_in}
+use Rattle.paper.specs.Rules.{rule_of}
 use Rattle.layouts.proofs.LayoutLaws.{rewritten, one_ranges, one_marks}
 use Rattle.layouts.proofs.mark_range.Goals as goal
 
 pub mark_ranges-requires : goal.mark_ranges-requires
 mark_ranges-requires c =
+    let r = c.args.rows in
+    let p = c.requires in
     record {
-      table = c.requires.accepted;
+      table = p.accepted;
       few = omega arith;
-      ranges =
-          one_ranges _ _ c.args.b c.args.e refl refl (length c.args.starts.now) c.requires.b_lt_e.0 c.requires.b_lt_e.1;
+      ranges = one_ranges _ _ r.first r.past refl refl (rows_in c.args.table.now) p.rows_in_bounds.0 p.rows_in_bounds.1;
     }
 
 pub returns : goal.returns
 returns c =
+    let t = c.args.terms in
+    let r = c.args.rows in
     rewritten _ _ _ _
-    (one_marks _ _ c.args.b c.args.e refl refl (rule_of c.args.rule)
-    (table c.args.starts.now c.args.ends.now) c.args.used c.args.width)
+    (one_marks _ _ r.first r.past refl refl (rule_of t.rule) (table_of c.args.table.now) t.used t.width)
     c.mark_ranges.ensures

@@ -11,5 +11,6 @@ mark_blocks-requires c =
 
 pub returns : goal.returns
 returns c =
-    blocks_written c.args.starts.now c.args.ends.now c.requires.table.good
-    (c.merge_adjacent-blocks.ensures.joined _ c.requires.ranges) c.args.rule _ _ _ _ _ c.way-by.ensures c.mark_blocks.ensures
+    let g = c.args in
+    blocks_written g.table.now g.ranges.now _ c.requires.table.good (c.merge_adjacent-blocks.ensures.joined _ c.requires.ranges)
+    g.terms.rule _ _ _ _ _ c.way-rule.ensures c.mark_blocks.ensures

@@ -1,8 +1,7 @@
 use mathlib.Core.Path.{◌≡◌, sym, ◌∙◌}
 use Prim.Native.Nat.{ℕ, ◌≤◌, ◌<◌}
 use native.Mathlib.Omega.{arith}
-use lib.ListN.{length, length-set}
-use borrow.Author.Rules.{rules}
+use lib.ListN.{length}
 use Rattle.lists.specs.TabLaws.{tab_none, tab_more, tab_all}
 use Rattle.paper.specs.declared.answers.Counts.{Counts}
 use Rattle.laws.specs.MarkCounts.{AtMost, counts_of_zero, counts_of_more, counts_of-le}
@@ -10,15 +9,7 @@ use Rattle.marks.proofs.mark_rows.Goals as goal
 
 pub loop-i-init : goal.loop-i-init
 loop-i-init c =
-    record {
-      within = omega arith;
-      long = search rules;
-      done = tab_none _ c.args.marks.now;
-      counted = c.no_counts-counts.ensures ∙ sym (counts_of_zero _);
-    }
-
-pub row_mark-m-requires : goal.row_mark-m-requires
-row_mark-m-requires c = record { held = c.requires.held; i_in_bounds = omega arith }
+    record { done = tab_none _ c.args.marks.now; counted = c.no_counts-counts.ensures ∙ sym (counts_of_zero _) }
 
 few : (c : Counts) (i n : ℕ) → i ≤ n → AtMost c i → AtMost c n
 few c i n h a = record { train = omega arith; test = omega arith; purged = omega arith; embargoed = omega arith }
@@ -33,8 +24,6 @@ loop-i-preserved c =
     let l = c.loop-i in
     let here : l.i < length l.marks = omega arith in
     record {
-      within = search rules;
-      long = simp length-set l.invariant.long;
       done = tab_more _ l.marks l.i _ here l.invariant.done c.row_mark-m.ensures;
       counted = c.one_more-counts.ensures ∙ rw (l.invariant.counted, c.row_mark-m.ensures) (sym (counts_of_more _ l.i));
     }
@@ -42,5 +31,5 @@ loop-i-preserved c =
 pub returns : goal.returns
 returns c =
     let l = c.loop-i in
-    let z : l.i ≡ length c.args.starts.now = omega arith in
+    let z : l.i ≡ length c.args.marker.now.table.starts.now = omega arith in
     record { marked = tab_all _ l.marks l.i _ l.invariant.done (omega arith) z; counted = rw z at l.invariant.counted }

@@ -2,7 +2,7 @@ use lib.ListN.{length}
 use Rattle.naive.proofs.PlainCounts.{plain_counts}
 use Rattle.naive.proofs.mark_range.Goals as goal
 
-pub returns : goal.returns
-returns c =
-    let g = c.args in
-    record { counts = plain_counts g.b g.e (length g.marks.now) c.requires.0 c.requires.1; lent = c.write_marks.ensures }
+pub returns-clause-counts : goal.returns-clause-counts
+returns-clause-counts c =
+    let r = c.args.rows in
+    rw c.write_marks.auto.marks (plain_counts r.first r.past (length c.args.marks.now) c.requires.0 c.requires.1)

@@ -1,18 +1,16 @@
-use native.Mathlib.Omega.{arith}
-use mathlib.Core.Path.{sym, ◌∙◌}
-use Rattle.lists.specs.SearchLaws.{search_start, search_hit, search_on, search_end}
+use mathlib.Core.Path.{◌≡◌, ◌∙◌}
+use lib.ListN.{length}
+use Rattle.std.proofs.Common.{rules, tests}
+use Rattle.std.proofs.lemmas.Iterator.{YieldsList-from_slice, YieldsList-from_zip}
+use Rattle.std.proofs.lemmas.Iterator.Search.{position_from_yields_List}
+use Rattle.scans.proofs.BackwardLaws.{back, found_back}
 use Rattle.scans.proofs.first_backward.Goals as goal
 
-pub loop-i-init : goal.loop-i-init
-loop-i-init c = search_start _ _
-
-pub returns-then-backward : goal.returns-then-backward
-returns-then-backward c =
-    search_hit _ _ c.loop-i.i c.loop-i.invariant (omega arith) (sym c.backward.ensures ∙ c.if-backward.true)
-
-pub loop-i-preserved : goal.loop-i-preserved
-loop-i-preserved c =
-    search_on _ _ c.loop-i.i c.loop-i.invariant (omega arith) (sym c.backward.ensures ∙ c.if-backward.false)
-
 pub returns : goal.returns
-returns c = search_end _ _ c.loop-i.i c.loop-i.invariant (omega arith)
+returns c =
+    let t = c.args.table.now in
+    let same : length t.starts.now ≡ length t.ends.now = search rules in
+    position_from_yields_List back c.position.new.self _ c.position.result c.position.ensures.ran
+    (YieldsList-from_zip (YieldsList-from_slice t.starts.now cc) (YieldsList-from_slice t.ends.now cc))
+    (λ x b q k. search (rules, tests))
+    ∙ found_back t.starts.now t.ends.now same

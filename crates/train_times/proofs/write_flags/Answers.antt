@@ -1,25 +1,27 @@
-use mathlib.Core.Path.{ap, ◌∙◌}
-use mathlib.Core.Bool.{not}
-use Prim.Native.Nat.{◌<◌}
+use mathlib.Core.Path.{◌≡◌, refl, ap, ◌∙◌}
+use mathlib.Core.Bool.{Bool, true, false, not}
+use Prim.Native.Nat.{ℕ}
 use native.Mathlib.Omega.{arith}
-use lib.ListN.{length, length-set}
-use borrow.Author.Rules.{rules}
+use Rattle.std.specs.Int.{from_bool}
 use Rattle.lists.specs.Base.{bit}
-use Rattle.lists.specs.TabLaws.{tab_none, tab_more, tab_all}
-use Rattle.train_times.specs.Lent.{dropped_by_some}
-use Rattle.train_times.proofs.write_flags.Invariants.{flag_of}
+use Rattle.lists.specs.TabLaws.{tab_none, tab_more}
+use Rattle.paper.specs.Spans.{span_of}
+use Rattle.train_times.specs.Dropped.{dropped_by_some}
 use Rattle.train_times.proofs.write_flags.Goals as goal
 
 pub loop-i-init : goal.loop-i-init
-loop-i-init c = (omega arith, search rules, tab_none _ c.args.flags.now)
+loop-i-init c = tab_none _ c.args.flags.now
+
+as_bit : (b : Bool) → from_bool b ≡ bit b
+as_bit true = refl
+as_bit false = refl
 
 pub loop-i-preserved : goal.loop-i-preserved
 loop-i-preserved c =
-    let g = c.args in
-    let h : c.loop-i.i < length c.loop-i.flags = omega arith in
-    (omega arith, simp length-set c.loop-i.invariant.1, tab_more (flag_of g.starts.now g.ends.now g.tests.now g.testends.now) c.loop-i.flags c.loop-i.i c.flag.result h c.loop-i.invariant.2 (c.flag.ensures ∙ ap (λ a. bit (not (dropped_by_some g.tests.now g.testends.now a))) c.span_at-a.ensures))
-
-pub returns : goal.returns
-returns c =
-    let g = c.args in
-    tab_all (flag_of g.starts.now g.ends.now g.tests.now g.testends.now) c.loop-i.flags c.loop-i.i (length g.starts.now) c.loop-i.invariant.2 (omega arith) (omega arith)
+    let l = c.loop-i in
+    let t = c.args.table.now in
+    let u = c.args.tests.now in
+    let f : ℕ → ℕ = λ i. bit (not (dropped_by_some u.starts.now u.ends.now (span_of t.starts.now t.ends.now i))) in
+    tab_more f l.flags l.i c.from.result (omega arith) l.invariant
+    (c.from.ensures ∙ as_bit (not c.dropped_by_some.result)
+    ∙ ap (λ b. bit (not b)) (c.dropped_by_some.ensures ∙ ap (dropped_by_some u.starts.now u.ends.now) c.span.ensures))

@@ -1,5 +1,7 @@
-use mathlib.Core.Path.{◌∙◌}
+use Rattle.checks.proofs.ReadyLaws.{split_or}
 use Rattle.checks.proofs.numbers.fold_set.Goals as goal
 
-pub returns : goal.returns
-returns c = c.refuse_if.ensures ∙ rw c.is_split.ensures
+pub returns-clause-answer : goal.returns-clause-answer
+returns-clause-answer c =
+    let a = c.args in
+    rw c.ok_or.ensures.value (split_or a.choice.n a.choice.k a.set c.split.result c.split.ensures)

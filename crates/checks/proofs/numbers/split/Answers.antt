@@ -1,20 +1,27 @@
-use mathlib.Core.Path.{◌∙◌}
+use Prim.{tt}
 use mathlib.Core.List.{[], ◌∷◌}
-use Rattle.paper.specs.Checks.{numbers_checks, no_such}
 use Rattle.paper.specs.Sets.{choose}
-use Rattle.checks.specs.declared.checked.Checked.{Checked}
-use Rattle.checks.proofs.ChainLaws.{then_append, then_fine}
-use Rattle.checks.proofs.ReadyLaws.{numbers_ready}
+use Rattle.paper.specs.Checks.{numbers_checks, no_such}
+use Rattle.checks.proofs.ChainLaws.{exit_is, refused_first, passed_first}
 use Rattle.checks.proofs.numbers.split.Goals as goal
 
-pub split_number-requires : goal.split_number-requires
-split_number-requires c =
+pub returns-in_err-choice-clause-answer : goal.returns-in_err-choice-clause-answer
+returns-in_err-choice-clause-answer c =
     let a = c.args in
-    λ e. (numbers_ready a.n a.k (then_fine Checked.Fine c.counts.result (numbers_checks a.n a.k) c.counts.ensures e)).small
+    let e = c.in_err-choice in
+    rw (exit_is _ _ c.from_residual.ensures.1) (refused_first e.field-0.0 (numbers_checks a.n a.k) (no_such (choose a.n a.k) a.s ∷ []) tt tt e.ensures.answer)
 
-pub returns : goal.returns
-returns c =
+pub returns-in_err-split_number-clause-answer : goal.returns-in_err-split_number-clause-answer
+returns-in_err-split_number-clause-answer c =
     let a = c.args in
-    let f = c.counts in
-    c.split_number.ensures
-    ∙ then_append Checked.Fine f.result (numbers_checks a.n a.k) (no_such (choose a.n a.k) a.s ∷ []) f.ensures
+    let t = c.in_ok-choice.ensures in
+    rw (exit_is _ _ c.from_residual-in_err-split_number.ensures.1)
+    (passed_first (numbers_checks a.n a.k) (no_such (choose a.n a.k) a.s ∷ []) tt tt t.answer
+    (rw (t.passed.0, t.passed.1) at c.in_err-split_number.ensures.answer))
+
+pub returns-clause-answer : goal.returns-clause-answer
+returns-clause-answer c =
+    let a = c.args in
+    let t = c.in_ok-choice.ensures in
+    passed_first (numbers_checks a.n a.k) (no_such (choose a.n a.k) a.s ∷ []) tt tt t.answer
+    (rw (t.passed.0, t.passed.1) at c.in_ok-split_number.ensures.answer)

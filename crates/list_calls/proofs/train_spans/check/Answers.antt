@@ -1,18 +1,41 @@
-use mathlib.Core.Path.{◌∙◌}
-use mathlib.Core.List.{[], ◌∷◌}
+use Prim.{tt}
+use mathlib.Core.List.{[], ◌∷◌, ◌++◌}
 use lib.ListN.{length}
 use Rattle.paper.specs.Checks.{lengths_differ, wrong_length}
-use Rattle.checks.specs.declared.checked.Checked.{Checked}
-use Rattle.checks.proofs.ChainLaws.{then_append}
+use Rattle.checks.proofs.ChainLaws.{exit_is, refused_first, passed_first}
 use Rattle.list_calls.proofs.train_spans.check.Goals as goal
 
-pub returns : goal.returns
-returns c =
+pub returns-in_err-table-clause-answer : goal.returns-in_err-table-clause-answer
+returns-in_err-table-clause-answer c =
     let a = c.args in
-    let f = c.lengths in
-    let t = c.refuse_if-found in
-    let tests = lengths_differ a.tests.now a.testends.now in
-    let last = wrong_length a.room (length a.starts.now) ∷ [] in
-    c.list_length.ensures
-    ∙ then_append f.result t.result (tests ∷ []) last t.ensures
-    ∙ then_append Checked.Fine f.result (lengths_differ a.starts.now a.ends.now ∷ []) (tests ∷ last) f.ensures
+    rw (exit_is _ _ c.from_residual.ensures.1)
+    (refused_first c.in_err-table.field-0.0 (lengths_differ a.starts.now a.ends.now ∷ []) ((lengths_differ a.tests.now a.testends.now ∷ []) ++ (wrong_length a.room (length a.starts.now) ∷ [])) (tt {0}) (tt {0}) c.in_err-table.ensures.answer)
+
+pub returns-in_err-test-clause-answer : goal.returns-in_err-test-clause-answer
+returns-in_err-test-clause-answer c =
+    let a = c.args in
+    rw (exit_is _ _ c.from_residual-in_err-test.ensures.1)
+    (passed_first (lengths_differ a.starts.now a.ends.now ∷ []) ((lengths_differ a.tests.now a.testends.now ∷ []) ++ (wrong_length a.room (length a.starts.now) ∷ [])) (tt {0}) (tt {0})
+    c.in_ok-table.ensures.answer
+    (refused_first c.in_err-test.field-0.0 (lengths_differ a.tests.now a.testends.now ∷ []) ((wrong_length a.room (length a.starts.now) ∷ [])) (tt {0}) (tt {0}) c.in_err-test.ensures.answer))
+
+pub returns-in_err-list_length-clause-answer : goal.returns-in_err-list_length-clause-answer
+returns-in_err-list_length-clause-answer c =
+    let a = c.args in
+    let t = c.in_ok-table.ensures.passed in
+    rw (exit_is _ _ c.from_residual-in_err-list_length.ensures.1)
+    (passed_first (lengths_differ a.starts.now a.ends.now ∷ []) ((lengths_differ a.tests.now a.testends.now ∷ []) ++ (wrong_length a.room (length a.starts.now) ∷ [])) (tt {0}) (tt {0})
+    c.in_ok-table.ensures.answer
+    (passed_first (lengths_differ a.tests.now a.testends.now ∷ []) ((wrong_length a.room (length a.starts.now) ∷ [])) (tt {0}) (tt {0})
+    c.in_ok-test.ensures.answer
+    (rw (c.len.ensures, t.0) at c.in_err-list_length.ensures.answer)))
+
+pub returns-clause-answer : goal.returns-clause-answer
+returns-clause-answer c =
+    let a = c.args in
+    let t = c.in_ok-table.ensures.passed in
+    passed_first (lengths_differ a.starts.now a.ends.now ∷ []) ((lengths_differ a.tests.now a.testends.now ∷ []) ++ (wrong_length a.room (length a.starts.now) ∷ [])) (tt {0}) (tt {0})
+    c.in_ok-table.ensures.answer
+    (passed_first (lengths_differ a.tests.now a.testends.now ∷ []) ((wrong_length a.room (length a.starts.now) ∷ [])) (tt {0}) (tt {0})
+    c.in_ok-test.ensures.answer
+    (rw (c.len.ensures, t.0) at c.in_ok-list_length.ensures.answer))

@@ -1,5 +1,6 @@
 -- Refused as the checks found; else the marks of the fold, with the width of the fraction, and 17 behind them.
-use mathlib.Core.Path.{refl, ap, ◌∙◌}
+use Prim.{tt}
+use mathlib.Core.Path.{◌≡◌, refl, ap, ◌∙◌}
 use mathlib.Core.List.{List, [], ◌∷◌, ◌++◌}
 use Prim.Native.Nat.{ℕ, ◌<◌}
 use lib.IntN.{ℤ}
@@ -13,12 +14,11 @@ use Rattle.paper.specs.Checks.{Check, table_checks, no_such}
 use Rattle.paper.specs.RowCalls.{kfold_marks}
 use Rattle.paper.proofs.ChecksMeaning.{clear_each}
 use Rattle.paper.proofs.Domains.{TableIn, FoldsIn, kfold_in}
-use Rattle.blocks.specs.Held.{rule_of}
-use Rattle.checks.specs.declared.checked.Checked.{Checked}
-use Rattle.checks.proofs.ChainLaws.{then_fine}
+use Rattle.paper.specs.Rules.{rule_of}
+use Rattle.checks.proofs.ChainLaws.{exit_is, passed_clear}
 use Rattle.mark_calls.proofs.OutcomeLaws.{refused_says, refused_leaves, marked_says, marked_leaves, accepted_of}
 use Rattle.mark_calls.proofs.cross.kfold.Goals as goal
-use Rattle.mark_calls.proofs.cross.kfold.Goals.{In-Fine}
+use Rattle.mark_calls.proofs.cross.kfold.Goals.{In_ok-table}
 
 -- All checks but 17.
 abbrev front : List ℤ → List ℤ → Settings → ℕ → ℕ → List Check
@@ -26,37 +26,57 @@ front starts ends st s room = table_checks starts ends st room ++ no_such st.fol
 
 -- What they have shown.
 shown :
-    (c : In-Fine) → let a = c.args in
+    (c : In_ok-table) → let a = c.args in
     TableIn a.starts.now a.ends.now a.settings.embargo (length a.marks.now) × FoldsIn a.settings.folds (length a.starts.now)
     × (a.split.0 < a.settings.folds)
 shown c =
     let a = c.args in
     let f = front a.starts.now a.ends.now a.settings a.split.0 (length a.marks.now) in
     kfold_in by_window a.starts.now a.ends.now a.settings (length a.marks.now) [] a.split.0
-    (clear_each f (then_fine Checked.Fine c.kfold.result f c.kfold.ensures c.in-Fine.is))
+    (clear_each f (passed_clear f (tt {0}) c.in_ok-table.ensures.answer))
 
-pub width_of-width-requires : goal.width_of-width-requires
-width_of-width-requires c = let t = shown c in record { x_value = t.0.fraction; n_bound = t.0.few }
+pub rounded_up-width-requires : goal.rounded_up-width-requires
+rounded_up-width-requires c =
+    let p = c.in_ok-table.ensures.passed in
+    let t = shown (goal.at.rounded_up-width-requires c).In_ok-table in
+    record { fraction_value = t.0.fraction; n_bound = rw (c.len.ensures, p.0) t.0.few }
 
-pub mark_fold-requires : goal.mark_fold-requires
-mark_fold-requires c =
-    let t = shown (goal.at.mark_fold-requires c).In-Fine in
-    record { accepted = accepted_of c.args.marks.now t.0; fold_in = record { below = t.2; enough = t.1.most } }
+pub mark_fold-counts-requires : goal.mark_fold-counts-requires
+mark_fold-counts-requires c =
+    let p = c.in_ok-table.ensures.passed in
+    let t = shown (goal.at.mark_fold-counts-requires c).In_ok-table in
+    record {
+      accepted = accepted_of c.in_ok-table.table c.args.marks.now p.0 p.1 t.0;
+      fold_in = record { below = t.2; enough = rw p.0 t.1.most };
+    }
 
-pub returns-in-Bad : goal.returns-in-Bad
-returns-in-Bad c =
+pub returns-in_err-table-clause-answer : goal.returns-in_err-table-clause-answer
+returns-in_err-table-clause-answer c =
     let a = c.args in
-    let f = front a.starts.now a.ends.now a.settings a.split.0 (length a.marks.now) in
+    let e = c.in_err-table in
     let marks = kfold_marks (rule_of a.rule) a.starts.now a.ends.now a.settings a.split.0 in
-    let e = c.in-Bad.is in
-    record { answer = refused_says f (rule_of a.rule) marks a.marks.now c.kfold.ensures e; list = refused_leaves f (rule_of a.rule) marks a.marks.now c.kfold.ensures refl e }
+    rw (exit_is _ _ c.from_residual.ensures.1) (refused_says (front a.starts.now a.ends.now a.settings a.split.0 (length a.marks.now)) (rule_of a.rule) marks a.marks.now e.field-0.0 e.ensures.answer)
 
-pub returns-in-Fine : goal.returns-in-Fine
-returns-in-Fine c =
+pub returns-in_err-table-clause-list : goal.returns-in_err-table-clause-list
+returns-in_err-table-clause-list c =
+    let a = c.args in
+    let e = c.in_err-table in
+    let marks = kfold_marks (rule_of a.rule) a.starts.now a.ends.now a.settings a.split.0 in
+    refused_leaves (front a.starts.now a.ends.now a.settings a.split.0 (length a.marks.now)) (rule_of a.rule) marks a.marks.now e.field-0.0 refl e.ensures.answer
+
+pub returns : goal.returns
+returns c =
     let a = c.args in
     let r = rule_of a.rule in
     let f = front a.starts.now a.ends.now a.settings a.split.0 (length a.marks.now) in
     let marks = kfold_marks r a.starts.now a.ends.now a.settings a.split.0 in
-    let e = c.in-Fine.is in
-    let width = ap (λ x. marks_of r (table a.starts.now a.ends.now) (kfold (even_borders (length a.starts.now) a.settings.folds) a.split.0 x)) c.width_of-width.ensures in
-    record { answer = marked_says f r marks a.marks.now c.kfold.ensures e c.trained.result (c.mark_fold.ensures.counted ∙ ap counts_of width) c.trained.ensures; list = marked_leaves f r marks a.marks.now c.kfold.ensures e (c.mark_fold.ensures.marked ∙ width) }
+    let t = c.in_ok-table.table in
+    let p = c.in_ok-table.ensures.passed in
+    let h = c.in_ok-table.ensures.answer in
+    let same : marks_of r (table t.starts.now t.ends.now) (kfold (even_borders (length t.starts.now) a.settings.folds) a.split.0 c.rounded_up-width.result) ≡ marks =
+    rw (c.rounded_up-width.ensures, c.len.ensures, p.0, p.1) refl
+    in
+    record {
+      answer = marked_says f r marks a.marks.now h c.trained.result (c.mark_fold-counts.ensures.counted ∙ ap counts_of same) c.trained.ensures;
+      list = marked_leaves f r marks a.marks.now h (c.mark_fold-counts.ensures.marked ∙ same);
+    }

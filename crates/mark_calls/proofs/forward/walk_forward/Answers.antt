@@ -1,4 +1,5 @@
 -- Refused as the checks found; else the marks of fold m + s.
+use Prim.{tt}
 use mathlib.Core.Path.{refl}
 use Prim.Native.Nat.{◌-◌, ◌≤◌, ◌<◌}
 use native.Mathlib.Omega.{arith}
@@ -8,15 +9,14 @@ use Rattle.paper.specs.Checks.{walk_forward_checks}
 use Rattle.paper.specs.RowCalls.{walk_forward_marks}
 use Rattle.paper.proofs.ChecksMeaning.{clear_each}
 use Rattle.paper.proofs.Domains.{TableIn, FoldsIn, walk_forward_in}
-use Rattle.checks.specs.declared.checked.Checked.{Checked}
-use Rattle.checks.proofs.ChainLaws.{then_fine}
+use Rattle.checks.proofs.ChainLaws.{exit_is, passed_clear}
 use Rattle.mark_calls.proofs.OutcomeLaws.{refused_says, refused_leaves, marked_says, marked_leaves, accepted_of}
 use Rattle.mark_calls.proofs.forward.walk_forward.Goals as goal
-use Rattle.mark_calls.proofs.forward.walk_forward.Goals.{In-Fine}
+use Rattle.mark_calls.proofs.forward.walk_forward.Goals.{In_ok-table}
 
 -- What the checks have shown.
 shown :
-    (c : In-Fine) → let a = c.args in
+    (c : In_ok-table) → let a = c.args in
     TableIn a.starts.now a.ends.now a.settings.embargo (length a.marks.now) × FoldsIn a.settings.folds (length a.starts.now)
     × ((1 ≤ a.m) × (a.m < a.settings.folds))
     × (a.split.0 < a.settings.folds - a.m)
@@ -24,7 +24,7 @@ shown c =
     let a = c.args in
     let f = walk_forward_checks a.starts.now a.ends.now a.settings a.m a.split.0 (length a.marks.now) in
     walk_forward_in a.starts.now a.ends.now a.settings a.m a.split.0 (length a.marks.now)
-    (clear_each f (then_fine Checked.Fine c.walk_forward.result f c.walk_forward.ensures c.in-Fine.is))
+    (clear_each f (passed_clear f (tt {0}) c.in_ok-table.ensures.answer))
 
 pub overflow_add-fold : goal.overflow_add-fold
 overflow_add-fold c =
@@ -34,24 +34,39 @@ overflow_add-fold c =
     let below = t.3 in
     omega arith
 
-pub mark_walk_forward-requires : goal.mark_walk_forward-requires
-mark_walk_forward-requires c =
-    let t = shown (goal.at.mark_walk_forward-requires c).In-Fine in
+pub mark_walk_forward-counts-requires : goal.mark_walk_forward-counts-requires
+mark_walk_forward-counts-requires c =
+    let p = c.in_ok-table.ensures.passed in
+    let t = shown (goal.at.mark_walk_forward-counts-requires c).In_ok-table in
     let below = t.3 in
-    record { accepted = accepted_of c.args.marks.now t.0; fold_in = record { below = omega arith; enough = t.1.most } }
+    record {
+      accepted = accepted_of c.in_ok-table.table c.args.marks.now p.0 p.1 t.0;
+      fold_in = record { below = omega arith; enough = rw p.0 t.1.most };
+    }
 
-pub returns-in-Bad : goal.returns-in-Bad
-returns-in-Bad c =
+pub returns-in_err-table-clause-answer : goal.returns-in_err-table-clause-answer
+returns-in_err-table-clause-answer c =
+    let a = c.args in
+    let e = c.in_err-table in
+    let marks = walk_forward_marks a.starts.now a.ends.now a.settings a.m a.split.0 in
+    rw (exit_is _ _ c.from_residual.ensures.1) (refused_says (walk_forward_checks a.starts.now a.ends.now a.settings a.m a.split.0 (length a.marks.now)) by_window marks a.marks.now e.field-0.0 e.ensures.answer)
+
+pub returns-in_err-table-clause-list : goal.returns-in_err-table-clause-list
+returns-in_err-table-clause-list c =
+    let a = c.args in
+    let e = c.in_err-table in
+    let marks = walk_forward_marks a.starts.now a.ends.now a.settings a.m a.split.0 in
+    refused_leaves (walk_forward_checks a.starts.now a.ends.now a.settings a.m a.split.0 (length a.marks.now)) by_window marks a.marks.now e.field-0.0 refl e.ensures.answer
+
+pub returns : goal.returns
+returns c =
     let a = c.args in
     let f = walk_forward_checks a.starts.now a.ends.now a.settings a.m a.split.0 (length a.marks.now) in
     let marks = walk_forward_marks a.starts.now a.ends.now a.settings a.m a.split.0 in
-    let e = c.in-Bad.is in
-    record { answer = refused_says f by_window marks a.marks.now c.walk_forward.ensures e; list = refused_leaves f by_window marks a.marks.now c.walk_forward.ensures refl e }
-
-pub returns-in-Fine : goal.returns-in-Fine
-returns-in-Fine c =
-    let a = c.args in
-    let f = walk_forward_checks a.starts.now a.ends.now a.settings a.m a.split.0 (length a.marks.now) in
-    let marks = walk_forward_marks a.starts.now a.ends.now a.settings a.m a.split.0 in
-    let e = c.in-Fine.is in
-    record { answer = marked_says f by_window marks a.marks.now c.walk_forward.ensures e c.trained.result c.mark_walk_forward.ensures.counted c.trained.ensures; list = marked_leaves f by_window marks a.marks.now c.walk_forward.ensures e c.mark_walk_forward.ensures.marked }
+    let p = c.in_ok-table.ensures.passed in
+    let h = c.in_ok-table.ensures.answer in
+    let w = rw (p.0, p.1) at c.mark_walk_forward-counts.ensures in
+    record {
+      answer = marked_says f by_window marks a.marks.now h c.trained.result w.counted c.trained.ensures;
+      list = marked_leaves f by_window marks a.marks.now h w.marked;
+    }

@@ -2,14 +2,14 @@ use borrow.Author.Tests.{eq-eqb, ne_eqb}
 use Rattle.paper.specs.Checks.{checked}
 use Rattle.mark_calls.proofs.outcome.trained.Goals as goal
 
-pub returns-in-Window : goal.returns-in-Window
+pub returns-in-Pair : goal.returns-in-Pair
 unfolding checked
-returns-in-Window c = rw c.in-Window.is
+returns-in-Pair c = rw (c.in-Pair.is, eq-eqb _ _ c.if-counts-eq0.true)
 
-pub returns-then-counts-eq0 : goal.returns-then-counts-eq0
+pub returns-in_default : goal.returns-in_default
 unfolding checked
-returns-then-counts-eq0 c = rw (c.in-Pair.is, eq-eqb _ _ c.if-counts-eq0.true)
+returns-in_default c = rw (c.in-Pair.is, ne_eqb _ _ c.if-counts-eq0.false)
 
-pub returns-else-counts-eq0 : goal.returns-else-counts-eq0
+pub returns-in_default-2 : goal.returns-in_default-2
 unfolding checked
-returns-else-counts-eq0 c = rw (c.in-Pair.is, ne_eqb _ _ c.if-counts-eq0.false)
+returns-in_default-2 c = rw c.in_default.is

@@ -1,29 +1,44 @@
-use mathlib.Core.Path.{◌∙◌}
+use Prim.{tt}
 use mathlib.Core.List.{[], ◌∷◌, ◌++◌}
 use Rattle.paper.specs.Sets.{choose}
-use Rattle.paper.specs.Checks.{table_checks, combination_checks, no_such}
-use Rattle.paper.proofs.ChecksMeaning.{clear_each}
-use Rattle.paper.proofs.RefusalsMeaning.{too_many_folds_passes}
-use Rattle.checks.specs.declared.checked.Checked.{Checked}
-use Rattle.checks.proofs.ChainLaws.{then_append, then_fine}
+use Rattle.paper.specs.Checks.{no_such, table_checks, combination_checks}
+use Rattle.checks.proofs.ChainLaws.{exit_is, refused_first, passed_first}
 use Rattle.row_checks.proofs.layouts.cpcv.Goals as goal
 
--- Where nothing was found, there are 64 folds at most.
-pub split_number-requires : goal.split_number-requires
-split_number-requires c =
+pub returns-in_err-table-clause-answer : goal.returns-in_err-table-clause-answer
+returns-in_err-table-clause-answer c =
     let a = c.args in
-    let chain = combination_checks a.settings.folds a.k in
-    λ e.
-    (too_many_folds_passes a.settings.folds).shows
-    (clear_each chain (then_fine c.folds_of_rows-found.result c.combinations.result chain c.combinations.ensures e)).1.0
+    rw (exit_is _ _ c.from_residual.ensures.1)
+    (refused_first c.in_err-table.field-0.0 (table_checks a.starts.now a.ends.now a.settings a.room) ((combination_checks a.settings.folds a.k) ++ (no_such (choose a.settings.folds a.k) a.s ∷ [])) (tt {0}) (tt {0}) c.in_err-table.ensures.answer)
 
-pub returns : goal.returns
-returns c =
+pub returns-in_err-choice-clause-answer : goal.returns-in_err-choice-clause-answer
+returns-in_err-choice-clause-answer c =
     let a = c.args in
-    let t = c.folds_of_rows-found in
-    let f = c.combinations in
-    let chain = combination_checks a.settings.folds a.k in
-    let last = no_such (choose a.settings.folds a.k) a.s ∷ [] in
-    c.split_number.ensures
-    ∙ then_append t.result f.result chain last f.ensures
-    ∙ then_append Checked.Fine t.result (table_checks a.starts.now a.ends.now a.settings a.room) (chain ++ last) t.ensures
+    let t = c.in_ok-table.ensures.passed in
+    rw (exit_is _ _ c.from_residual-in_err-choice.ensures.1)
+    (passed_first (table_checks a.starts.now a.ends.now a.settings a.room) ((combination_checks a.settings.folds a.k) ++ (no_such (choose a.settings.folds a.k) a.s ∷ [])) (tt {0}) (tt {0})
+    c.in_ok-table.ensures.answer
+    (refused_first c.in_err-choice.field-0.0 (combination_checks a.settings.folds a.k) ((no_such (choose a.settings.folds a.k) a.s ∷ [])) (tt {0}) (tt {0}) c.in_err-choice.ensures.answer))
+
+pub returns-in_err-split_number-clause-answer : goal.returns-in_err-split_number-clause-answer
+returns-in_err-split_number-clause-answer c =
+    let a = c.args in
+    let t = c.in_ok-table.ensures.passed in
+    let p = c.in_ok-choice.ensures.passed in
+    rw (exit_is _ _ c.from_residual-in_err-split_number.ensures.1)
+    (passed_first (table_checks a.starts.now a.ends.now a.settings a.room) ((combination_checks a.settings.folds a.k) ++ (no_such (choose a.settings.folds a.k) a.s ∷ [])) (tt {0}) (tt {0})
+    c.in_ok-table.ensures.answer
+    (passed_first (combination_checks a.settings.folds a.k) ((no_such (choose a.settings.folds a.k) a.s ∷ [])) (tt {0}) (tt {0})
+    c.in_ok-choice.ensures.answer
+    (rw (p.0, p.1) at c.in_err-split_number.ensures.answer)))
+
+pub returns-clause-answer : goal.returns-clause-answer
+returns-clause-answer c =
+    let a = c.args in
+    let t = c.in_ok-table.ensures.passed in
+    let p = c.in_ok-choice.ensures.passed in
+    passed_first (table_checks a.starts.now a.ends.now a.settings a.room) ((combination_checks a.settings.folds a.k) ++ (no_such (choose a.settings.folds a.k) a.s ∷ [])) (tt {0}) (tt {0})
+    c.in_ok-table.ensures.answer
+    (passed_first (combination_checks a.settings.folds a.k) ((no_such (choose a.settings.folds a.k) a.s ∷ [])) (tt {0}) (tt {0})
+    c.in_ok-choice.ensures.answer
+    (rw (p.0, p.1) at c.in_ok-split_number.ensures.answer))

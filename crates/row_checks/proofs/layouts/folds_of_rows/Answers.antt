@@ -1,48 +1,58 @@
--- The groups one after another are the chain; the spans are looked at where the lengths were found equal.
-use mathlib.Core.Path.{◌≡◌, ◌∙◌}
-use mathlib.Core.List.{List, [], ◌∷◌, ◌++◌}
 use Prim.{tt}
+use mathlib.Core.List.{[], ◌∷◌, ◌++◌}
 use lib.ListN.{length}
-use lib.IntN.{ℤ}
-use Rattle.paper.specs.declared.settings.Settings.{Settings}
 use Rattle.paper.specs.Spans.{table}
-use Rattle.paper.specs.Checks.{Check, checked, lengths_differ, no_rows, too_many_rows, bad_folds, bad_fraction, bad_span, wrong_length}
-use Rattle.paper.proofs.ChecksMeaning.{clear_each}
-use Rattle.paper.proofs.RefusalsMeaning.{lengths_differ_passes}
-use Rattle.checks.specs.Said.{said_checked}
-use Rattle.checks.specs.declared.checked.Checked.{Checked}
-use Rattle.checks.proofs.ChainLaws.{then_append, then_fine}
+use Rattle.paper.specs.Checks.{lengths_differ, no_rows, too_many_rows, bad_folds, bad_fraction, bad_span, wrong_length}
+use Rattle.checks.proofs.ChainLaws.{exit_is, refused_first, passed_first}
 use Rattle.row_checks.proofs.layouts.folds_of_rows.Goals as goal
-use Rattle.row_checks.proofs.layouts.folds_of_rows.Goals.{After-fraction}
 
--- 12, 1, 10, and with 2 and 3 behind them.
-abbrev first : List ℤ → List ℤ → List Check
-first starts ends = lengths_differ starts ends ∷ no_rows (length starts) ∷ too_many_rows (length starts) ∷ []
-
-abbrev front : List ℤ → List ℤ → Settings → List Check
-front starts ends st = first starts ends ++ bad_folds st.folds (length starts) ∷ bad_fraction st.embargo ∷ []
-
-found : (c : After-fraction) → let a = c.args in said_checked c.fraction.result ≡ checked (front a.starts.now a.ends.now a.settings) tt
-found c =
+pub returns-in_err-table-clause-answer : goal.returns-in_err-table-clause-answer
+returns-in_err-table-clause-answer c =
     let a = c.args in
-    let f = c.folds-found in
-    let z = c.size in
-    let n = length a.starts.now in
-    c.fraction.ensures
-    ∙ then_append z.result f.result (bad_folds a.settings.folds n ∷ []) (bad_fraction a.settings.embargo ∷ []) f.ensures
-    ∙ then_append Checked.Fine z.result (first a.starts.now a.ends.now) (bad_folds a.settings.folds n ∷ bad_fraction a.settings.embargo ∷ []) z.ensures
+    rw (exit_is _ _ c.from_residual.ensures.1)
+    (refused_first c.in_err-table.field-0.0 (lengths_differ a.starts.now a.ends.now ∷ no_rows (length a.starts.now) ∷ too_many_rows (length a.starts.now) ∷ []) ((bad_folds a.settings.folds (length a.starts.now) ∷ []) ++ (bad_fraction a.settings.embargo ∷ []) ++ (bad_span (table a.starts.now a.ends.now) ∷ wrong_length a.room (length a.starts.now) ∷ [])) (tt {0}) (tt {0}) c.in_err-table.ensures.answer)
 
-pub spans_and_room-requires : goal.spans_and_room-requires
-spans_and_room-requires c =
+pub returns-in_err-folds-clause-answer : goal.returns-in_err-folds-clause-answer
+returns-in_err-folds-clause-answer c =
     let a = c.args in
-    λ e.
-    (lengths_differ_passes a.starts.now a.ends.now).shows
-    (clear_each (front a.starts.now a.ends.now a.settings) (then_fine Checked.Fine c.fraction.result (front a.starts.now a.ends.now a.settings) (found c) e)).0
+    let t = c.in_ok-table.ensures.passed in
+    rw (exit_is _ _ c.from_residual-in_err-folds.ensures.1)
+    (passed_first (lengths_differ a.starts.now a.ends.now ∷ no_rows (length a.starts.now) ∷ too_many_rows (length a.starts.now) ∷ []) ((bad_folds a.settings.folds (length a.starts.now) ∷ []) ++ (bad_fraction a.settings.embargo ∷ []) ++ (bad_span (table a.starts.now a.ends.now) ∷ wrong_length a.room (length a.starts.now) ∷ [])) (tt {0}) (tt {0})
+    c.in_ok-table.ensures.answer
+    (refused_first c.in_err-folds.field-0.0 (bad_folds a.settings.folds (length a.starts.now) ∷ []) ((bad_fraction a.settings.embargo ∷ []) ++ (bad_span (table a.starts.now a.ends.now) ∷ wrong_length a.room (length a.starts.now) ∷ [])) (tt {0}) (tt {0}) (rw (c.len.ensures, t.0) at c.in_err-folds.ensures)))
 
-pub returns : goal.returns
-returns c =
+pub returns-in_err-fraction-clause-answer : goal.returns-in_err-fraction-clause-answer
+returns-in_err-fraction-clause-answer c =
     let a = c.args in
-    c.spans_and_room.ensures
-    ∙ then_append Checked.Fine c.fraction.result (front a.starts.now a.ends.now a.settings)
-    (bad_span (table a.starts.now a.ends.now) ∷ wrong_length a.room (length a.starts.now) ∷ [])
-    (found (goal.at.returns c).After-fraction)
+    let t = c.in_ok-table.ensures.passed in
+    rw (exit_is _ _ c.from_residual-in_err-fraction.ensures.1)
+    (passed_first (lengths_differ a.starts.now a.ends.now ∷ no_rows (length a.starts.now) ∷ too_many_rows (length a.starts.now) ∷ []) ((bad_folds a.settings.folds (length a.starts.now) ∷ []) ++ (bad_fraction a.settings.embargo ∷ []) ++ (bad_span (table a.starts.now a.ends.now) ∷ wrong_length a.room (length a.starts.now) ∷ [])) (tt {0}) (tt {0})
+    c.in_ok-table.ensures.answer
+    (passed_first (bad_folds a.settings.folds (length a.starts.now) ∷ []) ((bad_fraction a.settings.embargo ∷ []) ++ (bad_span (table a.starts.now a.ends.now) ∷ wrong_length a.room (length a.starts.now) ∷ [])) (tt {0}) (tt {0})
+    (rw (c.len.ensures, t.0) at c.in_ok-folds.ensures)
+    (refused_first c.in_err-fraction.field-0.0 (bad_fraction a.settings.embargo ∷ []) ((bad_span (table a.starts.now a.ends.now) ∷ wrong_length a.room (length a.starts.now) ∷ [])) (tt {0}) (tt {0}) c.in_err-fraction.ensures)))
+
+pub returns-in_err-spans_and_room-clause-answer : goal.returns-in_err-spans_and_room-clause-answer
+returns-in_err-spans_and_room-clause-answer c =
+    let a = c.args in
+    let t = c.in_ok-table.ensures.passed in
+    rw (exit_is _ _ c.from_residual-in_err-spans_and_room.ensures.1)
+    (passed_first (lengths_differ a.starts.now a.ends.now ∷ no_rows (length a.starts.now) ∷ too_many_rows (length a.starts.now) ∷ []) ((bad_folds a.settings.folds (length a.starts.now) ∷ []) ++ (bad_fraction a.settings.embargo ∷ []) ++ (bad_span (table a.starts.now a.ends.now) ∷ wrong_length a.room (length a.starts.now) ∷ [])) (tt {0}) (tt {0})
+    c.in_ok-table.ensures.answer
+    (passed_first (bad_folds a.settings.folds (length a.starts.now) ∷ []) ((bad_fraction a.settings.embargo ∷ []) ++ (bad_span (table a.starts.now a.ends.now) ∷ wrong_length a.room (length a.starts.now) ∷ [])) (tt {0}) (tt {0})
+    (rw (c.len.ensures, t.0) at c.in_ok-folds.ensures)
+    (passed_first (bad_fraction a.settings.embargo ∷ []) ((bad_span (table a.starts.now a.ends.now) ∷ wrong_length a.room (length a.starts.now) ∷ [])) (tt {0}) (tt {0})
+    c.in_ok-fraction.ensures
+    (rw (t.0, t.1) at c.in_err-spans_and_room.ensures))))
+
+pub returns-clause-answer : goal.returns-clause-answer
+returns-clause-answer c =
+    let a = c.args in
+    let t = c.in_ok-table.ensures.passed in
+    passed_first (lengths_differ a.starts.now a.ends.now ∷ no_rows (length a.starts.now) ∷ too_many_rows (length a.starts.now) ∷ []) ((bad_folds a.settings.folds (length a.starts.now) ∷ []) ++ (bad_fraction a.settings.embargo ∷ []) ++ (bad_span (table a.starts.now a.ends.now) ∷ wrong_length a.room (length a.starts.now) ∷ [])) (tt {0}) (tt {0})
+    c.in_ok-table.ensures.answer
+    (passed_first (bad_folds a.settings.folds (length a.starts.now) ∷ []) ((bad_fraction a.settings.embargo ∷ []) ++ (bad_span (table a.starts.now a.ends.now) ∷ wrong_length a.room (length a.starts.now) ∷ [])) (tt {0}) (tt {0})
+    (rw (c.len.ensures, t.0) at c.in_ok-folds.ensures)
+    (passed_first (bad_fraction a.settings.embargo ∷ []) ((bad_span (table a.starts.now a.ends.now) ∷ wrong_length a.room (length a.starts.now) ∷ [])) (tt {0}) (tt {0})
+    c.in_ok-fraction.ensures
+    (rw (t.0, t.1) at c.in_ok-spans_and_room.ensures)))

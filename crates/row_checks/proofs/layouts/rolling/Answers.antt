@@ -1,34 +1,44 @@
-use mathlib.Core.Path.{◌∙◌}
-use mathlib.Core.List.{[], ◌∷◌}
+use Prim.{tt}
+use mathlib.Core.List.{[], ◌∷◌, ◌++◌}
 use Prim.Native.Nat.{◌+◌, ◌*◌}
 use lib.ListN.{length}
 use Rattle.paper.specs.Checks.{zero_size, nothing_to_test, no_such}
-use Rattle.paper.proofs.ChecksMeaning.{clear_each}
-use Rattle.paper.proofs.RefusalsMeaning.{zero_size_passes, nothing_to_test_passes}
-use Rattle.checks.specs.declared.checked.Checked.{Checked}
-use Rattle.checks.proofs.ChainLaws.{then_append, then_fine}
+use Rattle.checks.proofs.ChainLaws.{exit_is, refused_first, passed_first}
 use Rattle.row_checks.specs.RowsAlone.{rows_alone}
 use Rattle.row_checks.proofs.layouts.rolling.Goals as goal
 
--- Where nothing was found, there is a row to test, and the layout moves on.
-pub later_start-requires : goal.later_start-requires
-later_start-requires c =
+pub returns-in_err-table-clause-answer : goal.returns-in_err-table-clause-answer
+returns-in_err-table-clause-answer c =
     let a = c.args in
-    let n = length a.starts.now in
-    let chain = zero_size a.a a.size a.step ∷ nothing_to_test a.a n ∷ [] in
-    λ e.
-    let t = clear_each chain (then_fine c.rows_alone.result c.sizes_within-found.result chain c.sizes_within-found.ensures e) in
-    ((nothing_to_test_passes a.a n).shows t.1.0, ((zero_size_passes a.a a.size a.step).shows t.0).2)
+    rw (exit_is _ _ c.from_residual.ensures.1)
+    (refused_first c.in_err-table.field-0.0 (rows_alone a.starts.now a.ends.now a.layout.pct_embargo a.room) ((zero_size a.layout.min_train_size a.layout.test_size a.layout.step_size ∷ nothing_to_test a.layout.min_train_size (length a.starts.now) ∷ []) ++ (no_such (length a.starts.now) (a.layout.min_train_size + a.s * a.layout.step_size) ∷ [])) (tt {0}) (tt {0}) c.in_err-table.ensures.answer)
 
-pub returns : goal.returns
-returns c =
+pub returns-in_err-sizes-clause-answer : goal.returns-in_err-sizes-clause-answer
+returns-in_err-sizes-clause-answer c =
     let a = c.args in
-    let n = length a.starts.now in
-    let t = c.rows_alone in
-    let f = c.sizes_within-found in
-    let sizes = zero_size a.a a.size a.step ∷ nothing_to_test a.a n ∷ [] in
-    c.later_start.ensures
-    ∙ then_append t.result f.result sizes (no_such n (a.a + a.s * a.step) ∷ []) f.ensures
-    ∙ then_append Checked.Fine t.result (rows_alone a.starts.now a.ends.now a.x a.room)
-    (zero_size a.a a.size a.step ∷ nothing_to_test a.a n ∷ no_such n (a.a + a.s * a.step) ∷ [])
-    t.ensures
+    let t = c.in_ok-table.ensures.passed in
+    rw (exit_is _ _ c.from_residual-in_err-sizes.ensures.1)
+    (passed_first (rows_alone a.starts.now a.ends.now a.layout.pct_embargo a.room) ((zero_size a.layout.min_train_size a.layout.test_size a.layout.step_size ∷ nothing_to_test a.layout.min_train_size (length a.starts.now) ∷ []) ++ (no_such (length a.starts.now) (a.layout.min_train_size + a.s * a.layout.step_size) ∷ [])) (tt {0}) (tt {0})
+    c.in_ok-table.ensures.answer
+    (refused_first c.in_err-sizes.field-0.0 (zero_size a.layout.min_train_size a.layout.test_size a.layout.step_size ∷ nothing_to_test a.layout.min_train_size (length a.starts.now) ∷ []) ((no_such (length a.starts.now) (a.layout.min_train_size + a.s * a.layout.step_size) ∷ [])) (tt {0}) (tt {0}) (rw (c.len-n.ensures, t.0) at c.in_err-sizes.ensures.answer)))
+
+pub returns-in_err-refuse_if-clause-answer : goal.returns-in_err-refuse_if-clause-answer
+returns-in_err-refuse_if-clause-answer c =
+    let a = c.args in
+    let t = c.in_ok-table.ensures.passed in
+    rw (exit_is _ _ c.from_residual-in_err-refuse_if.ensures.1)
+    (passed_first (rows_alone a.starts.now a.ends.now a.layout.pct_embargo a.room) ((zero_size a.layout.min_train_size a.layout.test_size a.layout.step_size ∷ nothing_to_test a.layout.min_train_size (length a.starts.now) ∷ []) ++ (no_such (length a.starts.now) (a.layout.min_train_size + a.s * a.layout.step_size) ∷ [])) (tt {0}) (tt {0})
+    c.in_ok-table.ensures.answer
+    (passed_first (zero_size a.layout.min_train_size a.layout.test_size a.layout.step_size ∷ nothing_to_test a.layout.min_train_size (length a.starts.now) ∷ []) ((no_such (length a.starts.now) (a.layout.min_train_size + a.s * a.layout.step_size) ∷ [])) (tt {0}) (tt {0})
+    (rw (c.len-n.ensures, t.0) at c.in_ok-sizes.ensures.answer)
+    (rw (c.begins_past-past.ensures, c.len-n.ensures, t.0) at c.in_err-refuse_if.ensures.answer)))
+
+pub returns-clause-answer : goal.returns-clause-answer
+returns-clause-answer c =
+    let a = c.args in
+    let t = c.in_ok-table.ensures.passed in
+    passed_first (rows_alone a.starts.now a.ends.now a.layout.pct_embargo a.room) ((zero_size a.layout.min_train_size a.layout.test_size a.layout.step_size ∷ nothing_to_test a.layout.min_train_size (length a.starts.now) ∷ []) ++ (no_such (length a.starts.now) (a.layout.min_train_size + a.s * a.layout.step_size) ∷ [])) (tt {0}) (tt {0})
+    c.in_ok-table.ensures.answer
+    (passed_first (zero_size a.layout.min_train_size a.layout.test_size a.layout.step_size ∷ nothing_to_test a.layout.min_train_size (length a.starts.now) ∷ []) ((no_such (length a.starts.now) (a.layout.min_train_size + a.s * a.layout.step_size) ∷ [])) (tt {0}) (tt {0})
+    (rw (c.len-n.ensures, t.0) at c.in_ok-sizes.ensures.answer)
+    (rw (c.begins_past-past.ensures, c.len-n.ensures, t.0) at c.in_ok-refuse_if.ensures.answer))

@@ -1,40 +1,43 @@
-use mathlib.Core.Path.{◌≡◌, ◌∙◌}
-use mathlib.Core.List.{List, [], ◌∷◌, ◌++◌}
 use Prim.{tt}
-use lib.IntN.{ℤ}
+use mathlib.Core.List.{[], ◌∷◌, ◌++◌}
 use lib.ListN.{length}
 use Rattle.paper.specs.Spans.{table}
-use Rattle.paper.specs.Checks.{Check, checked, lengths_differ, no_rows, too_many_rows, bad_fraction, bad_span, wrong_length}
-use Rattle.paper.proofs.ChecksMeaning.{clear_each}
-use Rattle.paper.proofs.RefusalsMeaning.{lengths_differ_passes}
-use Rattle.checks.specs.Said.{said_checked}
-use Rattle.checks.specs.declared.checked.Checked.{Checked}
-use Rattle.checks.proofs.ChainLaws.{then_append, then_fine}
+use Rattle.paper.specs.Checks.{lengths_differ, no_rows, too_many_rows, bad_fraction, bad_span, wrong_length}
+use Rattle.checks.proofs.ChainLaws.{exit_is, refused_first, passed_first}
 use Rattle.row_checks.proofs.layouts.rows_alone.Goals as goal
-use Rattle.row_checks.proofs.layouts.rows_alone.Goals.{After-fraction}
 
-abbrev first : List ℤ → List ℤ → List Check
-first starts ends = lengths_differ starts ends ∷ no_rows (length starts) ∷ too_many_rows (length starts) ∷ []
-
-found : (c : After-fraction) → let a = c.args in said_checked c.fraction.result ≡ checked (first a.starts.now a.ends.now ++ bad_fraction a.x ∷ []) tt
-found c =
+pub returns-in_err-table-clause-answer : goal.returns-in_err-table-clause-answer
+returns-in_err-table-clause-answer c =
     let a = c.args in
-    let z = c.size in
-    c.fraction.ensures
-    ∙ then_append Checked.Fine z.result (first a.starts.now a.ends.now) (bad_fraction a.x ∷ []) z.ensures
+    rw (exit_is _ _ c.from_residual.ensures.1)
+    (refused_first c.in_err-table.field-0.0 (lengths_differ a.starts.now a.ends.now ∷ no_rows (length a.starts.now) ∷ too_many_rows (length a.starts.now) ∷ []) ((bad_fraction a.x ∷ []) ++ (bad_span (table a.starts.now a.ends.now) ∷ wrong_length a.room (length a.starts.now) ∷ [])) (tt {0}) (tt {0}) c.in_err-table.ensures.answer)
 
-pub spans_and_room-requires : goal.spans_and_room-requires
-spans_and_room-requires c =
+pub returns-in_err-fraction-clause-answer : goal.returns-in_err-fraction-clause-answer
+returns-in_err-fraction-clause-answer c =
     let a = c.args in
-    let chain = first a.starts.now a.ends.now ++ bad_fraction a.x ∷ [] in
-    λ e.
-    (lengths_differ_passes a.starts.now a.ends.now).shows
-    (clear_each chain (then_fine Checked.Fine c.fraction.result chain (found c) e)).0
+    let t = c.in_ok-table.ensures.passed in
+    rw (exit_is _ _ c.from_residual-in_err-fraction.ensures.1)
+    (passed_first (lengths_differ a.starts.now a.ends.now ∷ no_rows (length a.starts.now) ∷ too_many_rows (length a.starts.now) ∷ []) ((bad_fraction a.x ∷ []) ++ (bad_span (table a.starts.now a.ends.now) ∷ wrong_length a.room (length a.starts.now) ∷ [])) (tt {0}) (tt {0})
+    c.in_ok-table.ensures.answer
+    (refused_first c.in_err-fraction.field-0.0 (bad_fraction a.x ∷ []) ((bad_span (table a.starts.now a.ends.now) ∷ wrong_length a.room (length a.starts.now) ∷ [])) (tt {0}) (tt {0}) c.in_err-fraction.ensures))
 
-pub returns : goal.returns
-returns c =
+pub returns-in_err-spans_and_room-clause-answer : goal.returns-in_err-spans_and_room-clause-answer
+returns-in_err-spans_and_room-clause-answer c =
     let a = c.args in
-    c.spans_and_room.ensures
-    ∙ then_append Checked.Fine c.fraction.result (first a.starts.now a.ends.now ++ bad_fraction a.x ∷ [])
-    (bad_span (table a.starts.now a.ends.now) ∷ wrong_length a.room (length a.starts.now) ∷ [])
-    (found (goal.at.returns c).After-fraction)
+    let t = c.in_ok-table.ensures.passed in
+    rw (exit_is _ _ c.from_residual-in_err-spans_and_room.ensures.1)
+    (passed_first (lengths_differ a.starts.now a.ends.now ∷ no_rows (length a.starts.now) ∷ too_many_rows (length a.starts.now) ∷ []) ((bad_fraction a.x ∷ []) ++ (bad_span (table a.starts.now a.ends.now) ∷ wrong_length a.room (length a.starts.now) ∷ [])) (tt {0}) (tt {0})
+    c.in_ok-table.ensures.answer
+    (passed_first (bad_fraction a.x ∷ []) ((bad_span (table a.starts.now a.ends.now) ∷ wrong_length a.room (length a.starts.now) ∷ [])) (tt {0}) (tt {0})
+    c.in_ok-fraction.ensures
+    (rw (t.0, t.1) at c.in_err-spans_and_room.ensures)))
+
+pub returns-clause-answer : goal.returns-clause-answer
+returns-clause-answer c =
+    let a = c.args in
+    let t = c.in_ok-table.ensures.passed in
+    passed_first (lengths_differ a.starts.now a.ends.now ∷ no_rows (length a.starts.now) ∷ too_many_rows (length a.starts.now) ∷ []) ((bad_fraction a.x ∷ []) ++ (bad_span (table a.starts.now a.ends.now) ∷ wrong_length a.room (length a.starts.now) ∷ [])) (tt {0}) (tt {0})
+    c.in_ok-table.ensures.answer
+    (passed_first (bad_fraction a.x ∷ []) ((bad_span (table a.starts.now a.ends.now) ∷ wrong_length a.room (length a.starts.now) ∷ [])) (tt {0}) (tt {0})
+    c.in_ok-fraction.ensures
+    (rw (t.0, t.1) at c.in_ok-spans_and_room.ensures))

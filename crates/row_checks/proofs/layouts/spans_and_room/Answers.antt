@@ -1,15 +1,20 @@
-use mathlib.Core.Path.{◌∙◌}
+use Prim.{tt}
 use mathlib.Core.List.{[], ◌∷◌}
 use lib.ListN.{length}
 use Rattle.paper.specs.Spans.{table}
 use Rattle.paper.specs.Checks.{bad_span, wrong_length}
-use Rattle.checks.proofs.ChainLaws.{then_append}
+use Rattle.checks.proofs.ChainLaws.{exit_is, refused_first, passed_first}
 use Rattle.row_checks.proofs.layouts.spans_and_room.Goals as goal
+
+pub returns-in_err-spans : goal.returns-in_err-spans
+returns-in_err-spans c =
+    let a = c.args in
+    rw (exit_is _ _ c.from_residual.ensures.1)
+    (refused_first c.in_err-spans.field-0.0 (bad_span (table a.table.now.starts.now a.table.now.ends.now) ∷ []) ((wrong_length a.room (length a.table.now.starts.now) ∷ [])) (tt {0}) (tt {0}) c.in_err-spans.ensures)
 
 pub returns : goal.returns
 returns c =
     let a = c.args in
-    let f = c.spans in
-    c.list_length.ensures
-    ∙ then_append a.found f.result (bad_span (table a.starts.now a.ends.now) ∷ []) (wrong_length a.room (length a.starts.now) ∷ [])
-    f.ensures
+    passed_first (bad_span (table a.table.now.starts.now a.table.now.ends.now) ∷ []) ((wrong_length a.room (length a.table.now.starts.now) ∷ [])) (tt {0}) (tt {0})
+    c.in_ok-spans.ensures
+    (rw c.len.ensures at c.list_length.ensures.answer)

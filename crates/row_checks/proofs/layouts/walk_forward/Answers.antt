@@ -1,29 +1,42 @@
-use mathlib.Core.Path.{◌∙◌}
-use mathlib.Core.List.{[], ◌∷◌}
+use Prim.{tt}
+use mathlib.Core.List.{[], ◌∷◌, ◌++◌}
 use Prim.Native.Nat.{◌-◌}
-use Rattle.paper.specs.Checks.{table_checks, bad_minimum, no_such}
-use Rattle.paper.proofs.ChecksMeaning.{clear_each}
-use Rattle.paper.proofs.RefusalsMeaning.{bad_minimum_passes}
-use Rattle.checks.specs.declared.checked.Checked.{Checked}
-use Rattle.checks.proofs.ChainLaws.{then_append, then_fine}
+use Rattle.paper.specs.Checks.{bad_minimum, no_such, table_checks}
+use Rattle.checks.proofs.ChainLaws.{exit_is, refused_first, passed_first}
 use Rattle.row_checks.proofs.layouts.walk_forward.Goals as goal
 
--- Where nothing was found, m is below N.
-pub later_fold-requires : goal.later_fold-requires
-later_fold-requires c =
+pub returns-in_err-table-clause-answer : goal.returns-in_err-table-clause-answer
+returns-in_err-table-clause-answer c =
     let a = c.args in
-    let chain = bad_minimum a.settings.folds a.m ∷ [] in
-    λ e.
-    ((bad_minimum_passes a.settings.folds a.m).shows
-    (clear_each chain (then_fine c.folds_of_rows-found.result c.minimum.result chain c.minimum.ensures e)).0
-    ).1
+    rw (exit_is _ _ c.from_residual.ensures.1)
+    (refused_first c.in_err-table.field-0.0 (table_checks a.starts.now a.ends.now a.settings a.room) ((bad_minimum a.settings.folds a.m ∷ []) ++ (no_such (a.settings.folds - a.m) a.s ∷ [])) (tt {0}) (tt {0}) c.in_err-table.ensures.answer)
 
-pub returns : goal.returns
-returns c =
+pub returns-in_err-minimum-clause-answer : goal.returns-in_err-minimum-clause-answer
+returns-in_err-minimum-clause-answer c =
     let a = c.args in
-    let t = c.folds_of_rows-found in
-    let f = c.minimum in
-    let last = no_such (a.settings.folds - a.m) a.s ∷ [] in
-    c.later_fold.ensures
-    ∙ then_append t.result f.result (bad_minimum a.settings.folds a.m ∷ []) last f.ensures
-    ∙ then_append Checked.Fine t.result (table_checks a.starts.now a.ends.now a.settings a.room) (bad_minimum a.settings.folds a.m ∷ last) t.ensures
+    let t = c.in_ok-table.ensures.passed in
+    rw (exit_is _ _ c.from_residual-in_err-minimum.ensures.1)
+    (passed_first (table_checks a.starts.now a.ends.now a.settings a.room) ((bad_minimum a.settings.folds a.m ∷ []) ++ (no_such (a.settings.folds - a.m) a.s ∷ [])) (tt {0}) (tt {0})
+    c.in_ok-table.ensures.answer
+    (refused_first c.in_err-minimum.field-0.0 (bad_minimum a.settings.folds a.m ∷ []) ((no_such (a.settings.folds - a.m) a.s ∷ [])) (tt {0}) (tt {0}) c.in_err-minimum.ensures.answer))
+
+pub returns-in_err-below-clause-answer : goal.returns-in_err-below-clause-answer
+returns-in_err-below-clause-answer c =
+    let a = c.args in
+    let t = c.in_ok-table.ensures.passed in
+    rw (exit_is _ _ c.from_residual-in_err-below.ensures.1)
+    (passed_first (table_checks a.starts.now a.ends.now a.settings a.room) ((bad_minimum a.settings.folds a.m ∷ []) ++ (no_such (a.settings.folds - a.m) a.s ∷ [])) (tt {0}) (tt {0})
+    c.in_ok-table.ensures.answer
+    (passed_first (bad_minimum a.settings.folds a.m ∷ []) ((no_such (a.settings.folds - a.m) a.s ∷ [])) (tt {0}) (tt {0})
+    c.in_ok-minimum.ensures.answer
+    c.in_err-below.ensures.answer))
+
+pub returns-clause-answer : goal.returns-clause-answer
+returns-clause-answer c =
+    let a = c.args in
+    let t = c.in_ok-table.ensures.passed in
+    passed_first (table_checks a.starts.now a.ends.now a.settings a.room) ((bad_minimum a.settings.folds a.m ∷ []) ++ (no_such (a.settings.folds - a.m) a.s ∷ [])) (tt {0}) (tt {0})
+    c.in_ok-table.ensures.answer
+    (passed_first (bad_minimum a.settings.folds a.m ∷ []) ((no_such (a.settings.folds - a.m) a.s ∷ [])) (tt {0}) (tt {0})
+    c.in_ok-minimum.ensures.answer
+    c.in_ok-below.ensures.answer)

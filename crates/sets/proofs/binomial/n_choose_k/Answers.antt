@@ -6,15 +6,6 @@ use Rattle.paper.proofs.Rows.{next}
 use Rattle.sets.proofs.TableLaws.{rows_from, triangle, triangle_at, triangle_room}
 use Rattle.sets.proofs.binomial.n_choose_k.Goals as goal
 
-pub overflow_mul-result : goal.overflow_mul-result
-overflow_mul-result c = omega (arith, triangle_room c.args.n c.requires)
-
-pub overflow_add-result-else-n-k : goal.overflow_add-result-else-n-k
-overflow_add-result-else-n-k c = omega (arith, triangle_room c.args.n c.requires)
-
-pub offset_bounds-n : goal.offset_bounds-n
-offset_bounds-n c = omega (arith, triangle_room c.args.n c.requires)
-
 pub bounds-n : goal.bounds-n
 bounds-n c = omega (arith, triangle_room c.args.n c.requires)
 

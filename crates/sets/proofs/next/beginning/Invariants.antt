@@ -1,11 +1,7 @@
 use mathlib.Core.Path.{◌≡◌}
-use Prim.Native.Nat.{◌-◌, ◌≤◌}
 use lib.ListN.{take}
 use Rattle.paper.specs.Handed.{handed, list_of}
 use Rattle.sets.proofs.next.beginning.Given as goal
 
-abbrev pub invariant-loop-i : goal.invariant-loop-i
-invariant-loop-i l = (l.i ≤ l.many) × (l.out ≡ handed (take l.i (list_of l.set)))
-
-abbrev pub decreases-loop-i : goal.decreases-loop-i
-decreases-loop-i l = l.many - l.i
+abbrev pub invariant-loop-fold : goal.invariant-loop-fold
+invariant-loop-fold l = l.out ≡ handed (take l.fold-index (list_of l.fn.set))

@@ -6,59 +6,11 @@ use Rattle.sets.proofs.numbering.+number_from.Goals as goal
 pub returns-then-at-k : goal.returns-then-at-k
 returns-then-at-k t c = tail_end c.requires c.if-at-k.true
 
-pub offset_bounds-set-at : goal.offset_bounds-set-at
-offset_bounds-set-at t c =
-    let ne = c.if-at-k.false in
-    let some = tail_some c.requires ne in
-    omega arith
-
-pub bounds-set-at : goal.bounds-set-at
-bounds-set-at t c =
-    let ne = c.if-at-k.false in
-    let some = tail_some c.requires ne in
-    omega arith
-
-pub overflow_sub-n : goal.overflow_sub-n
-overflow_sub-n t c =
-    let ne = c.if-at-k.false in
-    let some = tail_some c.requires ne in
-    omega arith
-
 pub number_from-requires : goal.number_from-requires
 number_from-requires t c =
     let ne = c.if-at-k.false in
     let some = tail_some c.requires ne in
     (omega arith, tail_first c.requires ne (c.args.n - 1) (omega arith) c.if-set-at.true)
-
-pub overflow_sub-n-else-set-at : goal.overflow_sub-n-else-set-at
-overflow_sub-n-else-set-at t c =
-    let ne = c.if-at-k.false in
-    let some = tail_some c.requires ne in
-    omega arith
-
-pub overflow_sub-k : goal.overflow_sub-k
-overflow_sub-k t c =
-    let ne = c.if-at-k.false in
-    let some = tail_some c.requires ne in
-    omega arith
-
-pub overflow_sub-k-else-set-at : goal.overflow_sub-k-else-set-at
-overflow_sub-k-else-set-at t c =
-    let ne = c.if-at-k.false in
-    let some = tail_some c.requires ne in
-    omega arith
-
-pub n_choose_k-requires : goal.n_choose_k-requires
-n_choose_k-requires t c =
-    let ne = c.if-at-k.false in
-    let some = tail_some c.requires ne in
-    omega arith
-
-pub overflow_sub-n-else-set-at-2 : goal.overflow_sub-n-else-set-at-2
-overflow_sub-n-else-set-at-2 t c =
-    let ne = c.if-at-k.false in
-    let some = tail_some c.requires ne in
-    omega arith
 
 pub number_from-requires-else-set-at : goal.number_from-requires-else-set-at
 number_from-requires-else-set-at t c =

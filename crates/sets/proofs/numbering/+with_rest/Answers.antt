@@ -6,30 +6,10 @@ use Rattle.sets.proofs.numbering.+with_rest.Goals as goal
 pub returns-then-k-eq0 : goal.returns-then-k-eq0
 returns-then-k-eq0 t c = rest_end c.requires c.if-k-eq0.true
 
-pub overflow_sub-n : goal.overflow_sub-n
-overflow_sub-n t c =
-    let some = rest_some c.requires in
-    omega arith
-
-pub with_fold-requires : goal.with_fold-requires
-with_fold-requires t c =
-    let some = rest_some c.requires in
-    (c.requires.tidy, omega arith)
-
-pub overflow_sub-n-then-number-hold_first : goal.overflow_sub-n-then-number-hold_first
-overflow_sub-n-then-number-hold_first t c =
-    let some = rest_some c.requires in
-    omega arith
-
 pub with_rest-requires : goal.with_rest-requires
 with_rest-requires t c =
     let some = rest_some c.requires in
     (omega arith, rest_first c.requires (c.args.n - 1) (c.args.k - 1) (omega arith) (omega arith) c.with_fold.result c.with_fold.ensures (rw c.n_choose_k-hold_first.ensures at c.if-number-hold_first.true))
-
-pub overflow_sub-n-else-number-hold_first : goal.overflow_sub-n-else-number-hold_first
-overflow_sub-n-else-number-hold_first t c =
-    let some = rest_some c.requires in
-    omega arith
 
 pub with_rest-requires-else-number-hold_first : goal.with_rest-requires-else-number-hold_first
 with_rest-requires-else-number-hold_first t c =

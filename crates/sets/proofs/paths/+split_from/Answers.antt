@@ -1,5 +1,5 @@
 use native.Mathlib.Omega.{arith}
-use Rattle.sets.proofs.PathLaws.{ahead_some, ahead_here, ahead_first, ahead_firsts, ahead_second, ahead_seconds, ahead_fits}
+use Rattle.sets.proofs.PathLaws.{ahead_some, ahead_here, ahead_firsts, ahead_second, ahead_seconds, ahead_fits}
 use Prim.Native.Nat.{◌-◌}
 use Rattle.sets.proofs.paths.+split_from.Goals as goal
 
@@ -7,53 +7,6 @@ pub returns-then-first-g : goal.returns-then-first-g
 returns-then-first-g t c =
     let some = ahead_some c.requires in
     ahead_here c.requires (c.args.n - 1) (c.args.k - 1) (omega arith) (omega arith) c.if-first-g.true
-
-pub overflow_sub-n : goal.overflow_sub-n
-overflow_sub-n t c =
-    let some = ahead_some c.requires in
-    omega arith
-
-pub overflow_sub-k : goal.overflow_sub-k
-overflow_sub-k t c =
-    let some = ahead_some c.requires in
-    omega arith
-
-pub holding-both-requires : goal.holding-both-requires
-holding-both-requires t c =
-    let some = ahead_some c.requires in
-    let ne = c.if-first-g.false in
-    (omega arith, omega arith)
-
-pub overflow_sub-n-then-p-both : goal.overflow_sub-n-then-p-both
-overflow_sub-n-then-p-both t c =
-    let some = ahead_some c.requires in
-    omega arith
-
-pub overflow_sub-k-then-p-both : goal.overflow_sub-k-then-p-both
-overflow_sub-k-then-p-both t c =
-    let some = ahead_some c.requires in
-    omega arith
-
-pub split_from-requires : goal.split_from-requires
-split_from-requires t c =
-    let some = ahead_some c.requires in
-    let ne = c.if-first-g.false in
-    (omega arith, ahead_first c.requires (c.args.n - 1) (c.args.k - 1) (omega arith) (omega arith) ne c.holding-both.result c.holding-both.ensures c.if-p-both.true)
-
-pub overflow_sub-n-else-p-both : goal.overflow_sub-n-else-p-both
-overflow_sub-n-else-p-both t c =
-    let some = ahead_some c.requires in
-    omega arith
-
-pub overflow_sub-k-else-p-both : goal.overflow_sub-k-else-p-both
-overflow_sub-k-else-p-both t c =
-    let some = ahead_some c.requires in
-    omega arith
-
-pub overflow_sub-n-else-p-both-2 : goal.overflow_sub-n-else-p-both-2
-overflow_sub-n-else-p-both-2 t c =
-    let some = ahead_some c.requires in
-    omega arith
 
 pub split_from-requires-else-p-both : goal.split_from-requires-else-p-both
 split_from-requires-else-p-both t c =

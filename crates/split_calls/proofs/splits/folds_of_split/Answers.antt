@@ -1,27 +1,20 @@
-use mathlib.Core.Path.{sym, ◌∙◌}
-use Rattle.paper.specs.Checks.{split_checks}
-use Rattle.checks.specs.declared.checked.Checked.{Checked}
-use Rattle.checks.proofs.ChainLaws.{then_fine, fine_gives, bad_gives}
-use Rattle.checks.proofs.ReadyLaws.{split_ready}
 use Prim.{tt}
-use native.Mathlib.Omega.{arith}
+use mathlib.Core.Path.{ap, ◌∙◌}
+use Rattle.paper.specs.Refusals.{done}
+use Rattle.paper.specs.Sets.{entry}
+use Rattle.paper.specs.Handed.{handed}
+use Rattle.paper.specs.Checks.{split_checks}
+use Rattle.checks.proofs.ChainLaws.{exit_is, refused_gives, passed_gives}
 use Rattle.split_calls.proofs.splits.folds_of_split.Goals as goal
 
-pub set_at-requires : goal.set_at-requires
-set_at-requires c =
+pub returns-in_err-choice : goal.returns-in_err-choice
+returns-in_err-choice c =
     let a = c.args in
-    let r = split_ready a.folds a.k a.split.0
-    (then_fine Checked.Fine c.split.result (split_checks a.folds a.k a.split.0) c.split.ensures c.in-Fine.is) in
-    (omega arith, omega arith)
+    let e = c.in_err-choice in
+    rw (exit_is _ _ c.from_residual.ensures.1) (refused_gives e.field-0.0 (split_checks a.folds a.k a.split.0) (tt {0}) (handed (entry a.folds a.k a.split.0)) e.ensures.answer)
 
-pub returns-in-Bad : goal.returns-in-Bad
-returns-in-Bad c =
+pub returns : goal.returns
+returns c =
     let a = c.args in
-    let b = bad_gives (split_checks a.folds a.k a.split.0) c.split.ensures c.in-Bad.is tt in
-    record { answer = sym b; folds = c.none.ensures ∙ rw b }
-
-pub returns-in-Fine : goal.returns-in-Fine
-returns-in-Fine c =
-    let a = c.args in
-    let b = fine_gives (split_checks a.folds a.k a.split.0) c.split.ensures c.in-Fine.is tt in
-    record { answer = sym b; folds = c.set_at.ensures ∙ rw b }
+    let t = c.in_ok-choice.ensures in
+    ap done (rw (t.passed.0, t.passed.1) at c.set_at.ensures) ∙ passed_gives (split_checks a.folds a.k a.split.0) (tt {0}) (handed (entry a.folds a.k a.split.0)) t.answer

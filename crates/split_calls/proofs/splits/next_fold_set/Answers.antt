@@ -1,40 +1,20 @@
-use mathlib.Core.Path.{◌≡◌, refl, sym, ap, ◌∙◌}
+use Prim.{tt}
+use mathlib.Core.Path.{ap, ◌∙◌}
 use Rattle.paper.specs.Refusals.{done}
-use Rattle.paper.specs.Checks.{set_checks}
-use Rattle.checks.specs.declared.checked.Checked.{Checked}
-use Rattle.checks.proofs.ChainLaws.{then_fine, fine_gives, bad_gives}
-use Rattle.checks.proofs.ReadyLaws.{set_ready}
-use mathlib.Core.Bool.{Bool, true, false, cond}
-use Rattle.paper.specs.declared.answers.Next.{Next}
+use Rattle.paper.specs.Places.{next_folds}
 use Rattle.paper.specs.Handed.{list_of}
-use Rattle.paper.specs.Answers.{said_next}
-use Rattle.paper.specs.Places.{has_next}
+use Rattle.paper.specs.Checks.{set_checks}
+use Rattle.checks.proofs.ChainLaws.{exit_is, refused_gives, passed_gives}
 use Rattle.split_calls.proofs.splits.next_fold_set.Goals as goal
 
-pub next_set-requires : goal.next_set-requires
-next_set-requires c =
+pub returns-in_err-split : goal.returns-in_err-split
+returns-in_err-split c =
     let a = c.args in
-    let s = list_of a.set in
-    let r = set_ready a.folds a.k s
-    (then_fine Checked.Fine c.set.result (set_checks a.folds a.k s) c.set.ensures c.in-Fine.is) in
-    (r.0.small, r.1)
+    let e = c.in_err-split in
+    rw (exit_is _ _ c.from_residual.ensures.1) (refused_gives e.field-0.0 (set_checks a.folds a.k (list_of a.set)) (tt {0}) (next_folds a.folds a.k (list_of a.set)) e.ensures.answer)
 
-pub returns-in-Bad : goal.returns-in-Bad
-returns-in-Bad c =
+pub returns : goal.returns
+returns c =
     let a = c.args in
-    let s = list_of a.set in
-    let b = bad_gives (set_checks a.folds a.k s) c.set.ensures c.in-Bad.is (has_next a.folds a.k s) in
-    record { answer = sym b; folds = c.none.ensures ∙ rw b }
-
--- There is a set after, or this is the last.
-said : (t : Bool) → said_next (cond t Next.After Next.Last) ≡ done t
-said true = refl
-said false = refl
-
-pub returns-in-Fine : goal.returns-in-Fine
-returns-in-Fine c =
-    let a = c.args in
-    let s = list_of a.set in
-    let b = fine_gives (set_checks a.folds a.k s) c.set.ensures c.in-Fine.is (has_next a.folds a.k s) in
-    let e = c.next_set.ensures in
-    record { answer = ap (λ x. said_next x.outcome) e ∙ said (has_next a.folds a.k s) ∙ sym b; folds = ap (λ x. x.folds) e ∙ rw b }
+    let t = c.in_ok-split.ensures in
+    ap done (rw (t.passed.0, t.passed.1, t.passed.2) at c.next.ensures) ∙ passed_gives (set_checks a.folds a.k (list_of a.set)) (tt {0}) (next_folds a.folds a.k (list_of a.set)) t.answer

@@ -1,30 +1,20 @@
-use mathlib.Core.Path.{sym, ap, ◌∙◌}
+use Prim.{tt}
+use mathlib.Core.Path.{ap, ◌∙◌}
 use Rattle.paper.specs.Refusals.{done}
-use Rattle.paper.specs.Checks.{set_checks}
-use Rattle.checks.specs.declared.checked.Checked.{Checked}
-use Rattle.checks.proofs.ChainLaws.{then_fine, fine_gives, bad_gives}
-use Rattle.checks.proofs.ReadyLaws.{set_ready}
-use Rattle.paper.specs.Handed.{list_of}
 use Rattle.paper.specs.Places.{place_of}
+use Rattle.paper.specs.Handed.{list_of}
+use Rattle.paper.specs.Checks.{set_checks}
+use Rattle.checks.proofs.ChainLaws.{exit_is, refused_gives, passed_gives}
 use Rattle.split_calls.proofs.splits.number_of_folds.Goals as goal
 
-pub number_of-requires : goal.number_of-requires
-number_of-requires c =
+pub returns-in_err-split : goal.returns-in_err-split
+returns-in_err-split c =
     let a = c.args in
-    let s = list_of a.set in
-    let r = set_ready a.folds a.k s
-    (then_fine Checked.Fine c.set.result (set_checks a.folds a.k s) c.set.ensures c.in-Fine.is) in
-    (r.0.small, r.1)
+    let e = c.in_err-split in
+    rw (exit_is _ _ c.from_residual.ensures.1) (refused_gives e.field-0.0 (set_checks a.folds a.k (list_of a.set)) (tt {0}) (place_of a.folds a.k (list_of a.set)) e.ensures.answer)
 
-pub returns-in-Bad : goal.returns-in-Bad
-returns-in-Bad c =
+pub returns : goal.returns
+returns c =
     let a = c.args in
-    let s = list_of a.set in
-    sym (bad_gives (set_checks a.folds a.k s) c.set.ensures c.in-Bad.is (place_of a.folds a.k s))
-
-pub returns-in-Fine : goal.returns-in-Fine
-returns-in-Fine c =
-    let a = c.args in
-    let s = list_of a.set in
-    ap done c.number_of.ensures
-    ∙ sym (fine_gives (set_checks a.folds a.k s) c.set.ensures c.in-Fine.is (place_of a.folds a.k s))
+    let t = c.in_ok-split.ensures in
+    ap done (rw (t.passed.0, t.passed.1, t.passed.2) at c.number.ensures) ∙ passed_gives (set_checks a.folds a.k (list_of a.set)) (tt {0}) (place_of a.folds a.k (list_of a.set)) t.answer

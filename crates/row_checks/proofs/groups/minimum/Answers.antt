@@ -1,5 +1,0 @@
-use mathlib.Core.Path.{◌∙◌}
-use Rattle.row_checks.proofs.groups.minimum.Goals as goal
-
-pub returns : goal.returns
-returns c = c.refuse_if.ensures ∙ rw c.outside.ensures

@@ -1,0 +1,2 @@
+pub mod BackwardLaws
+pub mod FallLaws
