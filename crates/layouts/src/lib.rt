@@ -13,7 +13,7 @@ ghost use Rattle.paper.specs.Layouts.{forward, kfold};
 ghost use Rattle.spans.specs.Tables.{table_of, rows_in};
 ghost use Rattle.paper.specs.Rules.{rule_of};
 ghost use Rattle.blocks.specs.Held.{firsts, pasts};
-ghost use Rattle.marks.specs.Accepted.{Accepted, Written};
+ghost use Rattle.marks.specs.Accepted.{Written};
 ghost use Rattle.layouts.specs.Tested.{one_range, forward_fold, cross_set, FoldIn, SetIn, RangesOf};
 
 use blocks::NO_ROWS;
@@ -21,65 +21,65 @@ use folds::{RowRange, contiguous_fold_bounds};
 use marks::mark_ranges;
 use paper::{Counts, FoldNumber, FoldSet, Rule};
 use rows::Terms;
-use spans::Table;
+use scans::Sound;
 
 // ---- one range
 
 // The marks of the split that tests some rows.
-fn mark_range(terms: Terms, table: &Table, rows: RowRange, marks: &mut [u8]) -> Counts
-    requires accepted { Accepted table.now marks.old }
-    requires rows_in_bounds { (rows.first < rows.past) × (rows.past ≤ rows_in table.now) }
-    ensures { Written (marks_of (rule_of terms.rule) (table_of table.now) (one_range rows.first rows.past terms.used terms.width)) marks.new result }
+fn mark_range(terms: Terms, sound: &Sound, rows: RowRange, marks: &mut [u8]) -> Counts
+    requires fits { length marks.old ≡ rows_in sound.now.table }
+    requires rows_in_bounds { (rows.first < rows.past) × (rows.past ≤ rows_in sound.now.table) }
+    ensures { Written (marks_of (rule_of terms.rule) (table_of sound.now.table) (one_range rows.first rows.past terms.used terms.width)) marks.new result }
 {
-    mark_ranges(terms, table, &[rows], marks)
+    mark_ranges(terms, sound, &[rows], marks)
 }
 
 // k-fold: a fold is tested.
 pub fn mark_fold(
     rule: Rule,
-    table: &Table,
+    sound: &Sound,
     folds: usize,
     fold: FoldNumber,
     width: usize,
     marks: &mut [u8],
 ) -> Counts
-    requires accepted { Accepted table.now marks.old }
-    requires fold_in { FoldIn (rows_in table.now) folds fold.0 }
-    ensures { Written (marks_of (rule_of rule) (table_of table.now) (kfold (even_borders (rows_in table.now) folds) fold.0 width)) marks.new result }
+    requires fits { length marks.old ≡ rows_in sound.now.table }
+    requires fold_in { FoldIn (rows_in sound.now.table) folds fold.0 }
+    ensures { Written (marks_of (rule_of rule) (table_of sound.now.table) (kfold (even_borders (rows_in sound.now.table) folds) fold.0 width)) marks.new result }
 {
-    let used = table.len();
+    let used = sound.table.len();
     let rows = fold_rows(used, folds, fold);
-    mark_range(Terms { rule, used, width }, table, rows, marks)
+    mark_range(Terms { rule, used, width }, sound, rows, marks)
 }
 
 // Walk-forward: a fold is tested, and only rows before it can train.
-pub fn mark_walk_forward(table: &Table, folds: usize, fold: FoldNumber, marks: &mut [u8]) -> Counts
-    requires accepted { Accepted table.now marks.old }
-    requires fold_in { FoldIn (rows_in table.now) folds fold.0 }
-    ensures { Written (marks_of by_window (table_of table.now) (forward_fold (rows_in table.now) folds fold.0)) marks.new result }
+pub fn mark_walk_forward(sound: &Sound, folds: usize, fold: FoldNumber, marks: &mut [u8]) -> Counts
+    requires fits { length marks.old ≡ rows_in sound.now.table }
+    requires fold_in { FoldIn (rows_in sound.now.table) folds fold.0 }
+    ensures { Written (marks_of by_window (table_of sound.now.table) (forward_fold (rows_in sound.now.table) folds fold.0)) marks.new result }
 {
-    let rows = fold_rows(table.len(), folds, fold);
+    let rows = fold_rows(sound.table.len(), folds, fold);
     let terms = Terms {
         rule: Rule::Window,
         used: rows.past,
         width: 0,
     };
-    mark_range(terms, table, rows, marks)
+    mark_range(terms, sound, rows, marks)
 }
 
 // Rolling: up to `size` rows from b on are tested, cut at the last row, and only rows before them can train.
-pub fn mark_rolling(table: &Table, b: usize, size: usize, marks: &mut [u8]) -> Counts
-    requires accepted { Accepted table.now marks.old }
-    requires b_in_bounds { (b < rows_in table.now) × (0 < size) }
-    ensures { Written (marks_of by_pair (table_of table.now) (forward b (b + size))) marks.new result }
+pub fn mark_rolling(sound: &Sound, b: usize, size: usize, marks: &mut [u8]) -> Counts
+    requires fits { length marks.old ≡ rows_in sound.now.table }
+    requires b_in_bounds { (b < rows_in sound.now.table) × (0 < size) }
+    ensures { Written (marks_of by_pair (table_of sound.now.table) (forward b (b + size))) marks.new result }
 {
-    let past = b + size.min(table.len() - b);
+    let past = b + size.min(sound.table.len() - b);
     let terms = Terms {
         rule: Rule::Pair,
         used: past,
         width: 0,
     };
-    mark_range(terms, table, RowRange { first: b, past }, marks)
+    mark_range(terms, sound, RowRange { first: b, past }, marks)
 }
 
 // ---- folds
@@ -112,18 +112,18 @@ fn fold_ranges<'a>(
 // Combinations: the folds of a set are tested.
 pub fn mark_folds(
     rule: Rule,
-    table: &Table,
+    sound: &Sound,
     folds: usize,
     set: FoldSet,
     width: usize,
     marks: &mut [u8],
 ) -> Counts
-    requires accepted { Accepted table.now marks.old }
-    requires set_in { SetIn (rows_in table.now) folds set }
-    ensures { Written (marks_of (rule_of rule) (table_of table.now) (cross_set (rows_in table.now) folds set width)) marks.new result }
+    requires fits { length marks.old ≡ rows_in sound.now.table }
+    requires set_in { SetIn (rows_in sound.now.table) folds set }
+    ensures { Written (marks_of (rule_of rule) (table_of sound.now.table) (cross_set (rows_in sound.now.table) folds set width)) marks.new result }
 {
     let mut buffer = [NO_ROWS; 64];
-    let used = table.len();
+    let used = sound.table.len();
     let ranges = fold_ranges(used, folds, set, &mut buffer);
-    mark_ranges(Terms { rule, used, width }, table, ranges, marks)
+    mark_ranges(Terms { rule, used, width }, sound, ranges, marks)
 }

@@ -18,7 +18,6 @@ use Rattle.paper.specs.Refusals.{done, refused, nothing, said_refusal}
 use Rattle.paper.specs.Answers.{said}
 use Rattle.paper.specs.Marks.{Rule, by_window, by_pair, counts_of}
 use Rattle.paper.specs.Checks.{Check, checked, lent, empty_train, zero_size, nothing_to_test, no_such}
-use Rattle.spans.specs.declared.table.Table.{Table}
 use Rattle.checks.proofs.ChainLaws.{append-clear, refused_first, passed_clear, without17, lent_refused}
 use Rattle.paper.specs.declared.numbers.FoldSet.{FoldSet}
 use Rattle.paper.specs.Spans.{table}
@@ -31,7 +30,6 @@ use Rattle.paper.proofs.HandedMeaning.{handed_back}
 use Rattle.paper.proofs.ListingMeaning.{entry_length, entry-is_split}
 use Rattle.row_checks.specs.RowsAlone.{rows_alone}
 use Rattle.layouts.specs.Tested.{SetIn}
-use Rattle.marks.specs.Accepted.{Accepted}
 use Rattle.mark_calls.specs.Trainless.{trainless}
 
 -- The counts tell what the marks tell.
@@ -74,15 +72,6 @@ module _ (front : List Check) (r : Rule) (marks old : List ℕ) where
     marked_leaves k =
         k ∙ lent_empty r marks (counts_of marks) old marks
         ∙ ap (λ o. lent o old marks) (sym (append-clear front (empty_train r marks) (counts_of marks) (passed_clear front (tt {0}) h)))
-
--- What the worker asks of a table that the checks have let pass.
-pub accepted_of :
-    {starts ends : List ℤ} {x : Float} (t : Table) (marks : List ℕ) → t.starts.now ≡ starts → t.ends.now ≡ ends →
-    TableIn starts ends x (length marks) → Accepted t marks
-accepted_of t marks s e i =
-    let small : length t.starts.now ≤ 1048576 = rw s i.few in
-    let long : length marks ≡ length t.starts.now = rw s i.fits in
-    record { small = small; good = record { each = rw (s, e) i.in_order }; long = long }
 
 -- What the checks of the rolling layout have shown, 17 not among them.
 pub rolling_shown :

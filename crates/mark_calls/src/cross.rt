@@ -26,10 +26,10 @@ pub fn kfold(
     ensures answer { said result ≡ kfold_call (rule_of rule) starts.now ends.now settings split.0 (length marks.old) }
     ensures list { marks.new ≡ lent (kfold_call (rule_of rule) starts.now ends.now settings split.0 (length marks.old)) marks.old (kfold_marks (rule_of rule) starts.now ends.now settings split.0) }
 {
-    let table = checked::kfold(starts, ends, settings, split.0, marks.len())?;
-    let width = width::rounded_up(settings.embargo, table.len());
+    let sound = checked::kfold(starts, ends, settings, split.0, marks.len())?;
+    let width = width::rounded_up(settings.embargo, sound.table.len());
     let fold = FoldNumber(split.0 as usize);
-    let counts = layouts::mark_fold(rule, &table, settings.folds, fold, width, marks);
+    let counts = layouts::mark_fold(rule, &sound, settings.folds, fold, width, marks);
     trained(rule, counts)
 }
 
@@ -46,9 +46,9 @@ pub fn cpcv(
     ensures answer { said result ≡ cpcv_call (rule_of rule) starts.now ends.now settings k split.0 (length marks.old) }
     ensures list { marks.new ≡ lent (cpcv_call (rule_of rule) starts.now ends.now settings k split.0 (length marks.old)) marks.old (cpcv_marks (rule_of rule) starts.now ends.now settings k split.0) }
 {
-    let (table, choice) = checked::cpcv(starts, ends, settings, k, split.0, marks.len())?;
-    let width = width::rounded_up(settings.embargo, table.len());
+    let (sound, choice) = checked::cpcv(starts, ends, settings, k, split.0, marks.len())?;
+    let width = width::rounded_up(settings.embargo, sound.table.len());
     let set = choice.set_at(split.0);
-    let counts = layouts::mark_folds(rule, &table, settings.folds, set, width, marks);
+    let counts = layouts::mark_folds(rule, &sound, settings.folds, set, width, marks);
     trained(rule, counts)
 }

@@ -24,9 +24,9 @@ pub fn walk_forward(
     ensures answer { said result ≡ walk_forward_call starts.now ends.now settings m split.0 (length marks.old) }
     ensures list { marks.new ≡ lent (walk_forward_call starts.now ends.now settings m split.0 (length marks.old)) marks.old (walk_forward_marks starts.now ends.now settings m split.0) }
 {
-    let table = checked::walk_forward(starts, ends, settings, m, split.0, marks.len())?;
+    let sound = checked::walk_forward(starts, ends, settings, m, split.0, marks.len())?;
     let fold = FoldNumber(m + split.0 as usize);
-    let counts = layouts::mark_walk_forward(&table, settings.folds, fold, marks);
+    let counts = layouts::mark_walk_forward(&sound, settings.folds, fold, marks);
     trained(Rule::Window, counts)
 }
 
@@ -42,8 +42,8 @@ pub fn rolling(
     ensures answer { said result ≡ rolling_call starts.now ends.now layout.pct_embargo layout.min_train_size layout.test_size layout.step_size split.0 (length marks.old) }
     ensures list { marks.new ≡ lent (rolling_call starts.now ends.now layout.pct_embargo layout.min_train_size layout.test_size layout.step_size split.0 (length marks.old)) marks.old (rolling_marks starts.now ends.now layout.min_train_size layout.test_size layout.step_size split.0) }
 {
-    let table = checked::rolling(starts, ends, layout, split.0, marks.len())?;
+    let sound = checked::rolling(starts, ends, layout, split.0, marks.len())?;
     let b = layout.min_train_size + split.0 as usize * layout.step_size;
-    let counts = layouts::mark_rolling(&table, b, layout.test_size, marks);
+    let counts = layouts::mark_rolling(&sound, b, layout.test_size, marks);
     trained(Rule::Pair, counts)
 }

@@ -1,20 +1,8 @@
 // Counts kept beside the marks. They move on by each mark without a branch.
 ghost use Rattle.std.specs.Prelude.{◌≡◌};
-ghost use Rattle.laws.specs.MarkCounts.{no_counts, one_more, AtMost};
+ghost use Rattle.laws.specs.MarkCounts.{one_more, AtMost};
 
 use paper::Counts;
-
-// Nothing counted.
-pub fn no_counts() -> Counts
-    ensures { result ≡ no_counts }
-{
-    Counts {
-        train: 0,
-        test: 0,
-        purged: 0,
-        embargoed: 0,
-    }
-}
 
 // One mark more.
 pub fn one_more(counts: Counts, m: u8) -> Counts

@@ -2,7 +2,7 @@
 // with the refusal as its error.
 
 // How many rows of a split train, are tested, are purged (marks 2 and 4) and are embargoed (marks 3 and 4).
-#[derive(Clone, Copy)]
+#[derive(Clone, Copy, Default)]
 pub struct Counts {
     pub train: usize,
     pub test: usize,

@@ -1,12 +1,12 @@
 // The kinds of lines.
+use paper::Rule;
+
 #[derive(Clone, Copy, PartialEq, Eq)]
 pub enum Kind {
     Table,
-    KfoldWindow,
-    CpcvWindow,
+    Kfold(Rule),
+    Cpcv(Rule),
     WalkForward,
-    KfoldPair,
-    CpcvPair,
     Rolling,
     FoldsOfSplit,
     WholePath,
@@ -22,11 +22,11 @@ pub enum Kind {
 // In the order in which they are reported. No call answers the last two.
 pub const KINDS: [Kind; 16] = [
     Kind::Table,
-    Kind::KfoldWindow,
-    Kind::CpcvWindow,
+    Kind::Kfold(Rule::Window),
+    Kind::Cpcv(Rule::Window),
     Kind::WalkForward,
-    Kind::KfoldPair,
-    Kind::CpcvPair,
+    Kind::Kfold(Rule::Pair),
+    Kind::Cpcv(Rule::Pair),
     Kind::Rolling,
     Kind::FoldsOfSplit,
     Kind::WholePath,
@@ -43,11 +43,11 @@ impl Kind {
     pub fn name(self) -> &'static str {
         match self {
             Kind::Table => "T",
-            Kind::KfoldWindow => "KW",
-            Kind::CpcvWindow => "CW",
+            Kind::Kfold(Rule::Window) => "KW",
+            Kind::Cpcv(Rule::Window) => "CW",
             Kind::WalkForward => "WF",
-            Kind::KfoldPair => "KP",
-            Kind::CpcvPair => "CP",
+            Kind::Kfold(Rule::Pair) => "KP",
+            Kind::Cpcv(Rule::Pair) => "CP",
             Kind::Rolling => "RP",
             Kind::FoldsOfSplit => "CF",
             Kind::WholePath => "PA",

@@ -22,11 +22,9 @@ use tally::Tallies;
 
 fn question(kind: Kind, line: &mut Cursor, spans: Spans, marks: &mut [u8]) -> Option<Verdict> {
     match kind {
-        Kind::KfoldWindow => marked::kfold_window(line, spans, marks),
-        Kind::CpcvWindow => marked::cpcv_window(line, spans, marks),
+        Kind::Kfold(rule) => marked::kfold(line, rule, spans, marks),
+        Kind::Cpcv(rule) => marked::cpcv(line, rule, spans, marks),
         Kind::WalkForward => marked::walk_forward(line, spans, marks),
-        Kind::KfoldPair => marked::kfold_pair(line, spans, marks),
-        Kind::CpcvPair => marked::cpcv_pair(line, spans, marks),
         Kind::Rolling => marked::rolling(line, spans, marks),
         _ => Some(Verdict::Line(plain(kind, line, spans, marks).is_some())),
     }

@@ -60,114 +60,81 @@ fn pair<F: Fn(u64, &mut [u8]) -> Answer>(
     Verdict::Line(told.is_some())
 }
 
+// The lines of the window rule tell the split, those of the pair rule the split or that the whole run is refused.
+fn told<F: Fn(u64, &mut [u8]) -> Answer>(
+    line: &mut Cursor,
+    rule: Rule,
+    split: u64,
+    ask: F,
+    marks: &mut [u8],
+) -> Verdict
+    requires { F.IsAlwaysCallable ask }
+{
+    match rule {
+        Rule::Window => {
+            let answer = ask(split, marks);
+            window(line, answer, marks)
+        }
+        Rule::Pair => pair(line, split, ask, marks),
+    }
+}
+
 // N, the fraction and the split.
-#[derive(Clone, Copy)]
-struct Kfold {
-    settings: Settings,
-    split: SplitNumber,
-}
-
-impl Kfold {
-    fn read(line: &mut Cursor) -> Option<Kfold> {
-        let folds = line.count()?;
-        let x = line.read()?;
-        let split = SplitNumber(line.read()?);
-        line.expect(b'=')?;
-        let settings = Settings::new(folds, x);
-        Some(Kfold { settings, split })
-    }
-
-    fn ask(self, rule: Rule, spans: Spans, split: u64, marks: &mut [u8]) -> Answer {
+pub fn kfold(line: &mut Cursor, rule: Rule, spans: Spans, marks: &mut [u8]) -> Option<Verdict> {
+    let folds = line.count()?;
+    let settings = Settings::new(folds, line.read()?);
+    let split = line.read()?;
+    line.expect(b'=')?;
+    let ask = |split: u64, out: &mut [u8]| {
         let split = SplitNumber(split);
-        mark_calls::kfold(rule, spans.starts, spans.ends, self.settings, split, marks)
-    }
-}
-
-pub fn kfold_window(line: &mut Cursor, spans: Spans, marks: &mut [u8]) -> Option<Verdict> {
-    let q = Kfold::read(line)?;
-    let answer = q.ask(Rule::Window, spans, q.split.0, marks);
-    Some(window(line, answer, marks))
-}
-
-pub fn kfold_pair(line: &mut Cursor, spans: Spans, marks: &mut [u8]) -> Option<Verdict> {
-    let q = Kfold::read(line)?;
-    let ask = |split: u64, out: &mut [u8]| q.ask(Rule::Pair, spans, split, out);
-    Some(pair(line, q.split.0, ask, marks))
+        mark_calls::kfold(rule, spans.starts, spans.ends, settings, split, out)
+    };
+    Some(told(line, rule, split, ask, marks))
 }
 
 // N, k or m, the fraction and the split.
 #[derive(Clone, Copy)]
-struct Cpcv {
+struct Folds {
     settings: Settings,
     k: usize,
-    split: SplitNumber,
+    split: u64,
 }
 
-impl Cpcv {
-    fn read(line: &mut Cursor) -> Option<Cpcv> {
+impl Folds {
+    fn read(line: &mut Cursor) -> Option<Folds> {
         let folds = line.count()?;
         let k = line.count()?;
-        let x = line.read()?;
-        let split = SplitNumber(line.read()?);
+        let settings = Settings::new(folds, line.read()?);
+        let split = line.read()?;
         line.expect(b'=')?;
-        let settings = Settings::new(folds, x);
-        Some(Cpcv { settings, k, split })
+        Some(Folds { settings, k, split })
     }
+}
 
-    fn ask(self, rule: Rule, spans: Spans, split: u64, marks: &mut [u8]) -> Answer {
+pub fn cpcv(line: &mut Cursor, rule: Rule, spans: Spans, marks: &mut [u8]) -> Option<Verdict> {
+    let q = Folds::read(line)?;
+    let ask = |split: u64, out: &mut [u8]| {
         let split = SplitNumber(split);
-        mark_calls::cpcv(
-            rule,
-            spans.starts,
-            spans.ends,
-            self.settings,
-            self.k,
-            split,
-            marks,
-        )
-    }
-}
-
-pub fn cpcv_window(line: &mut Cursor, spans: Spans, marks: &mut [u8]) -> Option<Verdict> {
-    let q = Cpcv::read(line)?;
-    let answer = q.ask(Rule::Window, spans, q.split.0, marks);
-    Some(window(line, answer, marks))
-}
-
-pub fn cpcv_pair(line: &mut Cursor, spans: Spans, marks: &mut [u8]) -> Option<Verdict> {
-    let q = Cpcv::read(line)?;
-    let ask = |split: u64, out: &mut [u8]| q.ask(Rule::Pair, spans, split, out);
-    Some(pair(line, q.split.0, ask, marks))
+        mark_calls::cpcv(rule, spans.starts, spans.ends, q.settings, q.k, split, out)
+    };
+    Some(told(line, rule, q.split, ask, marks))
 }
 
 pub fn walk_forward(line: &mut Cursor, spans: Spans, marks: &mut [u8]) -> Option<Verdict> {
-    let q = Cpcv::read(line)?;
-    let answer = mark_calls::walk_forward(
-        spans.starts,
-        spans.ends,
-        q.settings,
-        q.k,
-        q.split,
-        marks,
-    );
+    let q = Folds::read(line)?;
+    let split = SplitNumber(q.split);
+    let answer = mark_calls::walk_forward(spans.starts, spans.ends, q.settings, q.k, split, marks);
     Some(window(line, answer, marks))
 }
 
-fn read_rolling(line: &mut Cursor) -> Option<Rolling> {
-    let min_train_size = line.count()?;
-    let test_size = line.count()?;
-    let step_size = line.count()?;
-    let pct_embargo = line.read()?;
-    Some(Rolling {
-        min_train_size,
-        test_size,
-        step_size,
-        pct_embargo,
-    })
-}
-
+// The minimum train size, the test size, the step, the fraction and the split.
 pub fn rolling(line: &mut Cursor, spans: Spans, marks: &mut [u8]) -> Option<Verdict> {
-    let layout = read_rolling(line)?;
+    let layout = Rolling {
+        min_train_size: line.count()?,
+        test_size: line.count()?,
+        step_size: line.count()?,
+        pct_embargo: line.read()?,
+    };
     let split = line.read()?;
     line.expect(b'=')?;
     let ask = |split: u64, out: &mut [u8]| {

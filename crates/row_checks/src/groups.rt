@@ -1,6 +1,7 @@
 // The groups that the calls share: the table, the folds, the fraction, the spans.
-ghost use Rattle.std.specs.Prelude.{◌≡◌, ◌||◌, [], ◌∷◌, ◌<◌, ltb, eqb, length, IfOk};
+ghost use Rattle.std.specs.Prelude.{◌≡◌, ◌||◌, [], ◌∷◌, ◌<◌, ◌≤◌, ltb, eqb, length, IfOk};
 ghost use Rattle.paper.specs.Checks.{checked, lengths_differ, no_rows, too_many_rows, bad_folds, bad_fraction, bad_span, bad_minimum, zero_size, nothing_to_test};
+ghost use Rattle.laws.specs.Windows.{Good};
 ghost use Rattle.spans.specs.Tables.{table_of};
 ghost use Rattle.checks.specs.Said.{said_checked};
 
@@ -19,7 +20,8 @@ pub fn lengths<'a>(starts: &'a [i64], ends: &'a [i64]) -> Result<Table<'a>, Refu
 
 // 1 and 10: no rows, too many rows.
 pub fn rows(n: usize) -> Result<(), Refusal>
-    ensures { said_checked result ≡ checked (no_rows n ∷ too_many_rows n ∷ []) tt }
+    ensures answer { said_checked result ≡ checked (no_rows n ∷ too_many_rows n ∷ []) tt }
+    ensures passed { IfOk result (λ _. n ≤ 1048576) }
 {
     refuse_if(n == 0, Refusal::NoRows)?;
     refuse_if(Settings::MAX_ROWS < n, Refusal::TooManyRows)
@@ -47,7 +49,8 @@ pub fn fraction(x: f64) -> Result<(), Refusal>
 
 // 4: some end before its start.
 pub fn spans(table: &Table) -> Result<(), Refusal>
-    ensures { said_checked result ≡ checked (bad_span (table_of table.now) ∷ []) tt }
+    ensures answer { said_checked result ≡ checked (bad_span (table_of table.now) ∷ []) tt }
+    ensures passed { IfOk result (λ _. Good (table_of table.now)) }
 {
     match scans::first_backward(table) {
         Some(row) => Err(Refusal::InvalidInfoSet(row)),

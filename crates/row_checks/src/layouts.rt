@@ -1,8 +1,9 @@
 // The chains of the calls, put together of the groups: all but 17, which stands behind the marking. Each hands back the table
 // that it has made sure of.
-ghost use Rattle.std.specs.Prelude.{◌≡◌, [], ◌∷◌, ◌++◌, ◌+◌, ◌-◌, ◌*◌, ◌<◌, leb, length, IfOk};
+ghost use Rattle.std.specs.Prelude.{◌≡◌, [], ◌∷◌, ◌++◌, ◌+◌, ◌-◌, ◌*◌, ◌<◌, ◌≤◌, leb, length, IfOk};
 ghost use Rattle.paper.specs.Sets.{choose};
 ghost use Rattle.paper.specs.Checks.{checked, lengths_differ, no_rows, too_many_rows, bad_span, wrong_length, zero_size, nothing_to_test, no_such, table_checks, combination_checks, walk_forward_checks};
+ghost use Rattle.laws.specs.Windows.{Good};
 ghost use Rattle.spans.specs.Tables.{table_of};
 ghost use Rattle.checks.specs.Said.{said_checked};
 ghost use Rattle.row_checks.specs.RowsAlone.{rows_alone};
@@ -10,13 +11,14 @@ ghost use Rattle.row_checks.specs.RowsAlone.{rows_alone};
 use crate::groups;
 use checks::{numbers, refuse_if};
 use paper::{Refusal, Rolling, Settings};
+use scans::Sound;
 use sets::Choice;
 use spans::Table;
 
 // 12, 1, 10: what every table is asked first.
 fn size<'a>(starts: &'a [i64], ends: &'a [i64]) -> Result<Table<'a>, Refusal>
     ensures answer { said_checked result ≡ checked (lengths_differ starts.now ends.now ∷ no_rows (length starts.now) ∷ too_many_rows (length starts.now) ∷ []) tt }
-    ensures passed { IfOk result (λ t. (t.starts.now ≡ starts.now) × (t.ends.now ≡ ends.now)) }
+    ensures passed { IfOk result (λ t. (t.starts.now ≡ starts.now) × (t.ends.now ≡ ends.now) × (length starts.now ≤ 1048576)) }
 {
     let table = groups::lengths(starts, ends)?;
     groups::rows(table.len())?;
@@ -25,7 +27,8 @@ fn size<'a>(starts: &'a [i64], ends: &'a [i64]) -> Result<Table<'a>, Refusal>
 
 // 4 and 5: the spans, and the lent list.
 fn spans_and_room(table: &Table, room: usize) -> Result<(), Refusal>
-    ensures { said_checked result ≡ checked (bad_span (table_of table.now) ∷ wrong_length room (length table.now.starts.now) ∷ []) tt }
+    ensures answer { said_checked result ≡ checked (bad_span (table_of table.now) ∷ wrong_length room (length table.now.starts.now) ∷ []) tt }
+    ensures passed { IfOk result (λ _. Good (table_of table.now)) }
 {
     groups::spans(table)?;
     numbers::list_length(room, table.len())
@@ -37,15 +40,15 @@ pub fn folds_of_rows<'a>(
     ends: &'a [i64],
     settings: Settings,
     room: usize,
-) -> Result<Table<'a>, Refusal>
+) -> Result<Sound<'a>, Refusal>
     ensures answer { said_checked result ≡ checked (table_checks starts.now ends.now settings room) tt }
-    ensures passed { IfOk result (λ t. (t.starts.now ≡ starts.now) × (t.ends.now ≡ ends.now)) }
+    ensures passed { IfOk result (λ t. (t.table.starts.now ≡ starts.now) × (t.table.ends.now ≡ ends.now)) }
 {
     let table = size(starts, ends)?;
     groups::folds(settings.folds, table.len())?;
     groups::fraction(settings.embargo)?;
     spans_and_room(&table, room)?;
-    Ok(table)
+    Ok(Sound { table })
 }
 
 // k-fold: .. 13.
@@ -55,13 +58,13 @@ pub fn kfold<'a>(
     settings: Settings,
     s: u64,
     room: usize,
-) -> Result<Table<'a>, Refusal>
+) -> Result<Sound<'a>, Refusal>
     ensures answer { said_checked result ≡ checked (table_checks starts.now ends.now settings room ++ no_such settings.folds s ∷ []) tt }
-    ensures passed { IfOk result (λ t. (t.starts.now ≡ starts.now) × (t.ends.now ≡ ends.now)) }
+    ensures passed { IfOk result (λ t. (t.table.starts.now ≡ starts.now) × (t.table.ends.now ≡ ends.now)) }
 {
-    let table = folds_of_rows(starts, ends, settings, room)?;
+    let sound = folds_of_rows(starts, ends, settings, room)?;
     numbers::below(settings.folds as u64, s)?;
-    Ok(table)
+    Ok(sound)
 }
 
 // Combinations: .. 6, 11, 8, 13.
@@ -72,14 +75,14 @@ pub fn cpcv<'a>(
     k: usize,
     s: u64,
     room: usize,
-) -> Result<(Table<'a>, Choice), Refusal>
+) -> Result<(Sound<'a>, Choice), Refusal>
     ensures answer { said_checked result ≡ checked (table_checks starts.now ends.now settings room ++ combination_checks settings.folds k ++ no_such (choose settings.folds k) s ∷ []) tt }
-    ensures passed { IfOk result (λ p. (p.0.starts.now ≡ starts.now) × (p.0.ends.now ≡ ends.now) × (p.1.n ≡ settings.folds) × (p.1.k ≡ k) × (s < choose settings.folds k)) }
+    ensures passed { IfOk result (λ p. (p.0.table.starts.now ≡ starts.now) × (p.0.table.ends.now ≡ ends.now) × (p.1.n ≡ settings.folds) × (p.1.k ≡ k) × (s < choose settings.folds k)) }
 {
-    let table = folds_of_rows(starts, ends, settings, room)?;
+    let sound = folds_of_rows(starts, ends, settings, room)?;
     let choice = numbers::combinations(settings.folds, k)?;
     numbers::split_number(choice, s)?;
-    Ok((table, choice))
+    Ok((sound, choice))
 }
 
 // Walk-forward: .. 7, 13: folds m to N - 1 are tested.
@@ -90,14 +93,14 @@ pub fn walk_forward<'a>(
     m: usize,
     s: u64,
     room: usize,
-) -> Result<Table<'a>, Refusal>
+) -> Result<Sound<'a>, Refusal>
     ensures answer { said_checked result ≡ checked (walk_forward_checks starts.now ends.now settings m s room) tt }
-    ensures passed { IfOk result (λ t. (t.starts.now ≡ starts.now) × (t.ends.now ≡ ends.now)) }
+    ensures passed { IfOk result (λ t. (t.table.starts.now ≡ starts.now) × (t.table.ends.now ≡ ends.now)) }
 {
-    let table = folds_of_rows(starts, ends, settings, room)?;
+    let sound = folds_of_rows(starts, ends, settings, room)?;
     groups::minimum(settings.folds, m)?;
     numbers::below((settings.folds - m) as u64, s)?;
-    Ok(table)
+    Ok(sound)
 }
 
 // Does split s begin past the last row? The product is not made: it may be larger than any number here.
@@ -114,14 +117,14 @@ fn rows_alone<'a>(
     ends: &'a [i64],
     x: f64,
     room: usize,
-) -> Result<Table<'a>, Refusal>
+) -> Result<Sound<'a>, Refusal>
     ensures answer { said_checked result ≡ checked (rows_alone starts.now ends.now x room) tt }
-    ensures passed { IfOk result (λ t. (t.starts.now ≡ starts.now) × (t.ends.now ≡ ends.now)) }
+    ensures passed { IfOk result (λ t. (t.table.starts.now ≡ starts.now) × (t.table.ends.now ≡ ends.now)) }
 {
     let table = size(starts, ends)?;
     groups::fraction(x)?;
     spans_and_room(&table, room)?;
-    Ok(table)
+    Ok(Sound { table })
 }
 
 // The rolling layout: .. 15, 16, 13.
@@ -131,14 +134,14 @@ pub fn rolling<'a>(
     layout: Rolling,
     s: u64,
     room: usize,
-) -> Result<Table<'a>, Refusal>
+) -> Result<Sound<'a>, Refusal>
     ensures answer { said_checked result ≡ checked (rows_alone starts.now ends.now layout.pct_embargo room ++ zero_size layout.min_train_size layout.test_size layout.step_size ∷ nothing_to_test layout.min_train_size (length starts.now) ∷ no_such (length starts.now) (layout.min_train_size + s * layout.step_size) ∷ []) tt }
-    ensures passed { IfOk result (λ t. (t.starts.now ≡ starts.now) × (t.ends.now ≡ ends.now)) }
+    ensures passed { IfOk result (λ t. (t.table.starts.now ≡ starts.now) × (t.table.ends.now ≡ ends.now)) }
 {
-    let table = rows_alone(starts, ends, layout.pct_embargo, room)?;
-    let n = table.len();
+    let sound = rows_alone(starts, ends, layout.pct_embargo, room)?;
+    let n = sound.table.len();
     groups::sizes(layout, n)?;
     let past = begins_past(n, layout.min_train_size, layout.step_size, s);
     refuse_if(past, Refusal::NoSuchNumber)?;
-    Ok(table)
+    Ok(sound)
 }

@@ -21,6 +21,7 @@ ghost use Rattle.rows.specs.Asked.{meets_at, hit_by, purged_by, covered_by, Held
 use blocks::Block;
 use folds::RowRange;
 use paper::{Rule, Span};
+use scans::Sound;
 use spans::{Table, intervals_overlap};
 
 // By what rows are marked: the rule, how many of them take part, and how many an embargo covers.
@@ -35,16 +36,16 @@ pub struct Terms {
 #[derive(Clone, Copy)]
 pub struct Marker<'a> {
     pub terms: Terms,
-    pub table: Table<'a>,
+    pub sound: Sound<'a>,
     pub blocks: &'a [Block],
-    ghost held: { Held terms.rule table blocks.now },
+    ghost held: { Held terms.rule sound.table blocks.now },
 }
 
 impl<'a> Marker<'a> {
     // The mark of row i. Rows from `used` on take no part.
     pub fn row_mark(&self, i: usize) -> u8
-        requires { i < rows_in self.now.table }
-        ensures { result ≡ mark_of (rule_of self.now.terms.rule) (table_of self.now.table) (block_split self.now.blocks.now self.now.terms.used self.now.terms.width) i }
+        requires { i < rows_in self.now.sound.table }
+        ensures { result ≡ mark_of (rule_of self.now.terms.rule) (table_of self.now.sound.table) (block_split self.now.blocks.now self.now.terms.used self.now.terms.width) i }
     {
         if self.tested(i) {
             return 1;
@@ -52,7 +53,7 @@ impl<'a> Marker<'a> {
         if self.terms.used <= i {
             return 5;
         }
-        left_mark(self.purged(self.table.span(i)), self.embargoed(i))
+        left_mark(self.purged(self.sound.table.span(i)), self.embargoed(i))
     }
 
     // Is row i in one of the blocks?
@@ -69,10 +70,10 @@ impl<'a> Marker<'a> {
 
     // Is a row with span a purged by some block?
     fn purged(&self, a: Span) -> bool
-        ensures { result ≡ purged_by self.now.terms.rule (table_of self.now.table) (block_firsts self.now.blocks.now) (block_pasts self.now.blocks.now) (windows self.now.blocks.now) a (length self.now.blocks.now) }
+        ensures { result ≡ purged_by self.now.terms.rule (table_of self.now.sound.table) (block_firsts self.now.blocks.now) (block_pasts self.now.blocks.now) (windows self.now.blocks.now) a (length self.now.blocks.now) }
     {
         for block in self.blocks {
-            if hit(self.terms.rule, &self.table, a, block) {
+            if hit(self.terms.rule, &self.sound.table, a, block) {
                 return true;
             }
         }

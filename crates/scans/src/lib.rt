@@ -9,6 +9,9 @@ ghost use Rattle.std.specs.Prelude.{◌≡◌};
 ghost use Rattle.scans.specs.Falls.{starts_fall};
 ghost use Rattle.scans.specs.FirstBackward.{backward_found};
 
+pub mod sound;
+
+pub use sound::Sound;
 use spans::Table;
 
 // The first row whose span ends before its start.

@@ -9,9 +9,9 @@ pub mark_range-requires : goal.mark_range-requires
 mark_range-requires c =
     let g = c.args in
     record {
-      accepted = c.requires.accepted;
+      fits = c.requires.fits;
       rows_in_bounds =
-          rw (c.fold_rows-rows.ensures, c.len-used.ensures) (fold-fits (rows_in g.table.now) g.folds g.fold.0 c.requires.fold_in);
+          rw (c.fold_rows-rows.ensures, c.len-used.ensures) (fold-fits (rows_in g.sound.now.table) g.folds g.fold.0 c.requires.fold_in);
     }
 
 pub returns : goal.returns
@@ -19,6 +19,6 @@ returns c =
     let g = c.args in
     let rows = rw c.len-used.ensures at c.fold_rows-rows.ensures in
     rewritten _ _ _ _
-    (kfold_marks_lem (rows_in g.table.now) g.folds g.fold.0 c.requires.fold_in _ _ (ap (λ r. r.first) rows)
-    (ap (λ r. r.past) rows) (rule_of g.rule) (table_of g.table.now) g.width refl)
+    (kfold_marks_lem (rows_in g.sound.now.table) g.folds g.fold.0 c.requires.fold_in _ _ (ap (λ r. r.first) rows)
+    (ap (λ r. r.past) rows) (rule_of g.rule) (table_of g.sound.now.table) g.width refl)
     (rw c.len-used.ensures at c.mark_range.ensures)

@@ -12,7 +12,7 @@ mark_ranges-requires c =
     let r = c.fold_ranges-ranges.ensures in
     let ranges = rw c.len-used.ensures at r.ranges in
     record {
-      table = p.accepted;
+      long = p.fits;
       few = omega (arith, p.set_in.few, r.many);
       ranges = rw r.many (set_ranges p.set_in ranges);
     }
@@ -22,5 +22,5 @@ returns c =
     let r = c.fold_ranges-ranges.ensures in
     let ranges = rw c.len-used.ensures at r.ranges in
     rewritten _ _ _ _
-    (rw r.many (set_marks c.requires.set_in ranges (rule_of c.args.rule) (table_of c.args.table.now) c.args.width refl))
+    (rw r.many (set_marks c.requires.set_in ranges (rule_of c.args.rule) (table_of c.args.sound.now.table) c.args.width refl))
     (rw c.len-used.ensures at c.mark_ranges.ensures)

@@ -11,9 +11,9 @@ mark_ranges-requires c =
     let r = c.args.rows in
     let p = c.requires in
     record {
-      table = p.accepted;
+      long = p.fits;
       few = omega arith;
-      ranges = one_ranges _ _ r.first r.past refl refl (rows_in c.args.table.now) p.rows_in_bounds.0 p.rows_in_bounds.1;
+      ranges = one_ranges _ _ r.first r.past refl refl (rows_in c.args.sound.now.table) p.rows_in_bounds.0 p.rows_in_bounds.1;
     }
 
 pub returns : goal.returns
@@ -21,5 +21,5 @@ returns c =
     let t = c.args.terms in
     let r = c.args.rows in
     rewritten _ _ _ _
-    (one_marks _ _ r.first r.past refl refl (rule_of t.rule) (table_of c.args.table.now) t.used t.width)
+    (one_marks _ _ r.first r.past refl refl (rule_of t.rule) (table_of c.args.sound.now.table) t.used t.width)
     c.mark_ranges.ensures

@@ -10,5 +10,5 @@ pub returns : goal.returns
 returns c =
     let g = c.args in
     rewritten _ _ _ _
-    (rolling_cut by_pair (table_of g.table.now) g.b g.size _ (ap (λ v. g.b + v) (rw c.len.ensures at c.min.ensures)) c.requires.b_in_bounds.0)
+    (rolling_cut by_pair (table_of g.sound.now.table) g.b g.size _ (ap (λ v. g.b + v) (rw c.len.ensures at c.min.ensures)) c.requires.b_in_bounds.0)
     c.mark_range.ensures

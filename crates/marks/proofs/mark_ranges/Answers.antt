@@ -7,10 +7,10 @@ pub mark_blocks-requires : goal.mark_blocks-requires
 mark_blocks-requires c =
     let p = c.requires in
     let j = c.merge_adjacent-blocks.ensures in
-    record { accepted = p.table; blocks_bound = (omega (arith, p.few, j.few), (j.joined _ p.ranges).blocks) }
+    record { fits = p.long; blocks_bound = (omega (arith, p.few, j.few), (j.joined _ p.ranges).blocks) }
 
 pub returns : goal.returns
 returns c =
     let g = c.args in
-    blocks_written g.table.now g.ranges.now _ c.requires.table.good (c.merge_adjacent-blocks.ensures.joined _ c.requires.ranges)
+    blocks_written g.sound.now.table g.ranges.now _ c.args.sound.now.good (c.merge_adjacent-blocks.ensures.joined _ c.requires.ranges)
     g.terms.rule _ _ _ _ _ c.way-rule.ensures c.mark_blocks.ensures

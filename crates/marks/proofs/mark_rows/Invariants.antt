@@ -18,7 +18,7 @@ pub record Marked (f : ℕ → ℕ) (marks : List ℕ) (counts : Counts) (i : �
 
 -- The mark that row i is due.
 abbrev pub due : Marker → ℕ → ℕ
-due m = mark_of (rule_of m.terms.rule) (table_of m.table) (block_split m.blocks.now m.terms.used m.terms.width)
+due m = mark_of (rule_of m.terms.rule) (table_of m.sound.table) (block_split m.blocks.now m.terms.used m.terms.width)
 
 abbrev pub invariant-loop-i : goal.invariant-loop-i
 invariant-loop-i l = Marked (due l.marker) l.marks l.counts l.i

@@ -16,9 +16,9 @@ use Rattle.paper.proofs.ChecksMeaning.{clear_each}
 use Rattle.paper.proofs.Domains.{TableIn, FoldsIn, kfold_in}
 use Rattle.paper.specs.Rules.{rule_of}
 use Rattle.checks.proofs.ChainLaws.{exit_is, passed_clear}
-use Rattle.mark_calls.proofs.OutcomeLaws.{refused_says, refused_leaves, marked_says, marked_leaves, accepted_of}
+use Rattle.mark_calls.proofs.OutcomeLaws.{refused_says, refused_leaves, marked_says, marked_leaves}
 use Rattle.mark_calls.proofs.cross.kfold.Goals as goal
-use Rattle.mark_calls.proofs.cross.kfold.Goals.{In_ok-table}
+use Rattle.mark_calls.proofs.cross.kfold.Goals.{In_ok-sound}
 
 -- All checks but 17.
 abbrev front : List ℤ → List ℤ → Settings → ℕ → ℕ → List Check
@@ -26,41 +26,41 @@ front starts ends st s room = table_checks starts ends st room ++ no_such st.fol
 
 -- What they have shown.
 shown :
-    (c : In_ok-table) → let a = c.args in
+    (c : In_ok-sound) → let a = c.args in
     TableIn a.starts.now a.ends.now a.settings.embargo (length a.marks.now) × FoldsIn a.settings.folds (length a.starts.now)
     × (a.split.0 < a.settings.folds)
 shown c =
     let a = c.args in
     let f = front a.starts.now a.ends.now a.settings a.split.0 (length a.marks.now) in
     kfold_in by_window a.starts.now a.ends.now a.settings (length a.marks.now) [] a.split.0
-    (clear_each f (passed_clear f (tt {0}) c.in_ok-table.ensures.answer))
+    (clear_each f (passed_clear f (tt {0}) c.in_ok-sound.ensures.answer))
 
 pub rounded_up-width-requires : goal.rounded_up-width-requires
 rounded_up-width-requires c =
-    let p = c.in_ok-table.ensures.passed in
-    let t = shown (goal.at.rounded_up-width-requires c).In_ok-table in
-    record { fraction_value = t.0.fraction; n_bound = rw (c.len.ensures, p.0) t.0.few }
+    let p = c.in_ok-sound.ensures.passed in
+    let t = shown (goal.at.rounded_up-width-requires c).In_ok-sound in
+    record { fraction_value = t.0.fraction; n_bound = rw c.len.ensures c.in_ok-sound.sound.few }
 
 pub mark_fold-counts-requires : goal.mark_fold-counts-requires
 mark_fold-counts-requires c =
-    let p = c.in_ok-table.ensures.passed in
-    let t = shown (goal.at.mark_fold-counts-requires c).In_ok-table in
+    let p = c.in_ok-sound.ensures.passed in
+    let t = shown (goal.at.mark_fold-counts-requires c).In_ok-sound in
     record {
-      accepted = accepted_of c.in_ok-table.table c.args.marks.now p.0 p.1 t.0;
+      fits = rw p.0 t.0.fits;
       fold_in = record { below = t.2; enough = rw p.0 t.1.most };
     }
 
-pub returns-in_err-table-clause-answer : goal.returns-in_err-table-clause-answer
-returns-in_err-table-clause-answer c =
+pub returns-in_err-sound-clause-answer : goal.returns-in_err-sound-clause-answer
+returns-in_err-sound-clause-answer c =
     let a = c.args in
-    let e = c.in_err-table in
+    let e = c.in_err-sound in
     let marks = kfold_marks (rule_of a.rule) a.starts.now a.ends.now a.settings a.split.0 in
     rw (exit_is _ _ c.from_residual.ensures.1) (refused_says (front a.starts.now a.ends.now a.settings a.split.0 (length a.marks.now)) (rule_of a.rule) marks a.marks.now e.field-0.0 e.ensures.answer)
 
-pub returns-in_err-table-clause-list : goal.returns-in_err-table-clause-list
-returns-in_err-table-clause-list c =
+pub returns-in_err-sound-clause-list : goal.returns-in_err-sound-clause-list
+returns-in_err-sound-clause-list c =
     let a = c.args in
-    let e = c.in_err-table in
+    let e = c.in_err-sound in
     let marks = kfold_marks (rule_of a.rule) a.starts.now a.ends.now a.settings a.split.0 in
     refused_leaves (front a.starts.now a.ends.now a.settings a.split.0 (length a.marks.now)) (rule_of a.rule) marks a.marks.now e.field-0.0 refl e.ensures.answer
 
@@ -70,9 +70,9 @@ returns c =
     let r = rule_of a.rule in
     let f = front a.starts.now a.ends.now a.settings a.split.0 (length a.marks.now) in
     let marks = kfold_marks r a.starts.now a.ends.now a.settings a.split.0 in
-    let t = c.in_ok-table.table in
-    let p = c.in_ok-table.ensures.passed in
-    let h = c.in_ok-table.ensures.answer in
+    let t = c.in_ok-sound.sound.table in
+    let p = c.in_ok-sound.ensures.passed in
+    let h = c.in_ok-sound.ensures.answer in
     let same : marks_of r (table t.starts.now t.ends.now) (kfold (even_borders (length t.starts.now) a.settings.folds) a.split.0 c.rounded_up-width.result) ≡ marks =
     rw (c.rounded_up-width.ensures, c.len.ensures, p.0, p.1) refl
     in

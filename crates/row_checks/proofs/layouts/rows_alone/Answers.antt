@@ -30,7 +30,12 @@ returns-in_err-spans_and_room-clause-answer c =
     c.in_ok-table.ensures.answer
     (passed_first (bad_fraction a.x ∷ []) ((bad_span (table a.starts.now a.ends.now) ∷ wrong_length a.room (length a.starts.now) ∷ [])) (tt {0}) (tt {0})
     c.in_ok-fraction.ensures
-    (rw (t.0, t.1) at c.in_err-spans_and_room.ensures)))
+    (rw (t.0, t.1) at c.in_err-spans_and_room.ensures.answer)))
+
+pub invariant_of-result : goal.invariant_of-result
+invariant_of-result c =
+    let t = c.in_ok-table.ensures.passed in
+    record { few = rw t.0 t.2; good = c.in_ok-spans_and_room.ensures.passed }
 
 pub returns-clause-answer : goal.returns-clause-answer
 returns-clause-answer c =
@@ -40,4 +45,4 @@ returns-clause-answer c =
     c.in_ok-table.ensures.answer
     (passed_first (bad_fraction a.x ∷ []) ((bad_span (table a.starts.now a.ends.now) ∷ wrong_length a.room (length a.starts.now) ∷ [])) (tt {0}) (tt {0})
     c.in_ok-fraction.ensures
-    (rw (t.0, t.1) at c.in_ok-spans_and_room.ensures))
+    (rw (t.0, t.1) at c.in_ok-spans_and_room.ensures.answer))

@@ -18,7 +18,7 @@ returns-in_err-rows-clause-answer c =
     rw (exit_is _ _ c.from_residual-in_err-rows.ensures.1)
     (passed_first (lengths_differ a.starts.now a.ends.now ∷ []) ((no_rows (length a.starts.now) ∷ too_many_rows (length a.starts.now) ∷ [])) (tt {0}) (tt {0})
     c.in_ok-table.ensures.answer
-    (rw (c.len.ensures, t.0) at c.in_err-rows.ensures))
+    (rw (c.len.ensures, t.0) at c.in_err-rows.ensures.answer))
 
 pub returns-clause-answer : goal.returns-clause-answer
 returns-clause-answer c =
@@ -26,4 +26,4 @@ returns-clause-answer c =
     let t = c.in_ok-table.ensures.passed in
     passed_first (lengths_differ a.starts.now a.ends.now ∷ []) ((no_rows (length a.starts.now) ∷ too_many_rows (length a.starts.now) ∷ [])) (tt {0}) (tt {0})
     c.in_ok-table.ensures.answer
-    (rw (c.len.ensures, t.0) at c.in_ok-rows.ensures)
+    (rw (c.len.ensures, t.0) at c.in_ok-rows.ensures.answer)
