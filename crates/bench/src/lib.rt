@@ -1,5 +1,5 @@
 // The split bench: what a program imports. Every call takes any arguments, and answers with its result or with one of 01's
-// refusals; none asks anything of its caller. A program's line in crates.txt names `bench` alone.
+// refusals; none asks anything of its caller. A program needs no more in crates.txt than `bench`.
 #![tactic(auto)]
 
 // The value types.

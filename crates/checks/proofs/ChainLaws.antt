@@ -3,7 +3,6 @@ use mathlib.Core.Path.{◌≡◌, refl, sym, ap, ◌∙◌}
 use mathlib.Core.Bool.{Bool, true, false, cond, not, ◌&&◌}
 use mathlib.Core.List.{List, [], ◌∷◌, ◌++◌, append-nil}
 use Prim.Native.Nat.{ℕ}
-use native.Mathlib.Omega.{arith}
 use lib.Dec.{eqb}
 use borrow.Author.Tests.{not-true}
 use Rattle.std.specs.Prelude.{Result, Err}
@@ -13,11 +12,8 @@ use Rattle.lists.specs.AnyLaws.{both, never}
 use Rattle.paper.specs.declared.refusal.Refusal.{Refusal}
 use Rattle.paper.specs.Refusals.{Outcome, Carried, done, refused, said_refusal}
 use Rattle.paper.specs.Checks.{Check, checked, lent}
+use Rattle.paper.proofs.AnswersMeaning.{apart}
 use Rattle.paper.proofs.ChecksMeaning.{clear, checked-clear}
-
--- A result is no refusal.
-apart : {A X : Type 0} {a : A} {n : ℕ} {c : Carried} → ◌≡◌ {A = Outcome A} (done a) (refused n c) → X
-apart h = absurd (let z : ◌≡◌ {A = ℕ} 0 1 = cc in omega arith)
 
 -- ---- a chain of checks
 

@@ -3,7 +3,7 @@ use mathlib.Core.Path.{◌≡◌, sym, ◌∙◌}
 use Prim.Native.Nat.{ℕ, ◌+◌, ◌≤◌, ◌<◌}
 use native.Mathlib.Omega.{arith}
 use borrow.Author.Tests.{lt-ltb}
-use Rattle.std.specs.Prelude.{Option, None, Some}
+use Rattle.std.specs.Prelude.{Some}
 use Rattle.paper.specs.Folds.{even_border}
 use Rattle.paper.proofs.FoldsMeaning.{even_border_closed, even_border-le, even_border_size}
 use Rattle.folds.specs.declared.RowRange.{RowRange}
@@ -18,9 +18,6 @@ module _ (n N f : ℕ) (h : f < N) where
 
   pub bounds_rows : (r : RowRange) → bounds_of n N f ≡ Some r → r ≡ rows
   bounds_rows r k = let z : Some r ≡ Some rows = sym k ∙ found in cc
-
-  pub bounds_some : bounds_of n N f ≡ None → ⊥
-  bounds_some k = let z : ◌≡◌ {A = Option RowRange} None (Some rows) = sym k ∙ found in cc
 
   -- They lie in order within the rows.
   pub bounds_order : even_border n N f ≤ even_border n N (f + 1)

@@ -55,6 +55,9 @@ pub fn contiguous_fold_bounds(n: usize, folds: usize, fold: FoldNumber) -> Optio
 pub fn fold_of_row(n: usize, folds: usize, row: usize) -> Option<FoldNumber>
     ensures { result ≡ fold_found n folds row }
 {
+    if n <= row {
+        return None;
+    }
     (0..folds)
         .find(|f| row < fold_start(n, folds, *f + 1))
         .map(FoldNumber)

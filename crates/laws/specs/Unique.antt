@@ -1,7 +1,8 @@
 -- Unique: any two outcomes that a contract allows are the same.
 --
 -- A contract says two things: the answer, in the paper's numbers, is the first refusal of the call's chain that is due, or
--- the result; and what is left in the lent list is what the paper says of that outcome. Both are equations, and no two answers say the same. So an answer with what is left beside it is settled.
+-- the result; and what is left in the lent list is what the paper says of that outcome. Both are equations, and no two
+-- answers say the same. So an answer with what is left beside it is settled.
 -- Stated once of all calls, and named for each kind of answer: a call is an instance by its chain, result and lent list.
 use Rattle.std.specs.Prelude.{◌≡◌, List}
 use Rattle.std.proofs.Common.{sym, ◌∙◌}

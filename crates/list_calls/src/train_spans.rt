@@ -6,6 +6,7 @@ ghost use Rattle.std.specs.Prelude.{◌≡◌, length, IfOk};
 ghost use Rattle.paper.specs.Answers.{said};
 ghost use Rattle.paper.specs.Checks.{checked, lent, train_times_checks};
 ghost use Rattle.paper.specs.RowCalls.{train_times_call, flags_of};
+ghost use Rattle.spans.specs.Tables.{Holds};
 ghost use Rattle.checks.specs.Said.{said_checked};
 
 use checks::numbers;
@@ -22,7 +23,7 @@ fn check<'a>(
     room: usize,
 ) -> Result<(Table<'a>, Table<'a>), Refusal>
     ensures answer { said_checked result ≡ checked (train_times_checks starts.now ends.now tests.now testends.now room) tt }
-    ensures passed { IfOk result (λ p. (p.0.starts.now ≡ starts.now) × (p.0.ends.now ≡ ends.now) × (p.1.starts.now ≡ tests.now) × (p.1.ends.now ≡ testends.now) × (room ≡ length starts.now)) }
+    ensures passed { IfOk result (λ p. Holds p.0 starts.now ends.now × Holds p.1 tests.now testends.now × (room ≡ length starts.now)) }
 {
     let table = groups::lengths(starts, ends)?;
     let test = groups::lengths(tests, testends)?;

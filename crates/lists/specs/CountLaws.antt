@@ -1,7 +1,13 @@
 -- Laws of `count` and `tally`: bounds, what changes nothing, ranges, and that a tally of a made list is a count.
 use Rattle.std.specs.Prelude.{◌≡◌, refl, Bool, true, false, not, ◌||◌, List, [], ◌∷◌, ◌++◌, ℕ, zero, suc, ◌+◌, ◌-◌, ◌≤◌, ◌<◌, eqb}
 use Rattle.std.proofs.Common.{sym, ap, ◌∙◌, add-one, arith}
+use Rattle.std.specs.Int.{from_bool}
 use Rattle.lists.specs.Base.{tab, count, tally, bit}
+
+-- A test as a number, as the library gives it.
+pub from_bool-bit : (b : Bool) → from_bool b ≡ bit b
+from_bool-bit true = refl
+from_bool-bit false = refl
 
 pub bit_le : (b : Bool) → bit b ≤ 1
 bit_le true = omega arith

@@ -30,8 +30,8 @@ pub fn walk_forward(
     trained(Rule::Window, counts)
 }
 
-// Marks a split of the rolling layout: up to `test_size` rows are tested, from the first that may be on, and as many steps
-// behind it as the split's number says. The pair rule.
+// Marks a split of the rolling layout: up to `test_size` rows are tested, from row `min_train_size` + s·`step_size` on. The
+// pair rule.
 pub fn rolling(
     starts: &[i64],
     ends: &[i64],

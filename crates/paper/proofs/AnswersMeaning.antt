@@ -107,7 +107,7 @@ said_refusal_one {A} a b h =
 -- ---- the answers
 
 -- A result is no refusal.
-apart : {A X : Type 0} {a : A} {n : ℕ} {c : Carried} → ◌≡◌ {A = Outcome A} (done a) (refused n c) → X
+pub apart : {A X : Type 0} {a : A} {n : ℕ} {c : Carried} → ◌≡◌ {A = Outcome A} (done a) (refused n c) → X
 apart {a} {n} {c} h = absurd (let z : ◌≡◌ {A = ℕ} 0 1 = cc in omega arith)
 
 -- So two answers that say the same are the same.

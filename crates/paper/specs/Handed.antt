@@ -16,7 +16,7 @@ numbers (f ∷ s) = f.0 ∷ numbers s
 abbrev pub handed : List ℕ → FoldSet
 handed s = record { folds = numbered s ++ replicate (64 - length s) (record { 0 = 0 }); count = length s }
 
--- No folds: what stands beside a refusal, and after the last set.
+-- No folds: the set to which folds are added.
 abbrev pub no_folds : FoldSet
 no_folds = record { folds = replicate 64 (record { 0 = 0 }); count = 0 }
 

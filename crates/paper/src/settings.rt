@@ -1,4 +1,5 @@
-// The settings record (01, "Rows, times, settings"). Its source is `PurgedKFold` of cross_validation.rs. Changed against it:
+// The settings record, and what the rolling layout is made with (01, "Rows, times, settings"). The record's source is
+// `PurgedKFold` of cross_validation.rs. Changed against it:
 // - the table is lent to each call and is no part of the record;
 // - making settings checks nothing: each call checks the settings it gets, in 01's order.
 ghost use Rattle.std.specs.Prelude.{◌≡◌};

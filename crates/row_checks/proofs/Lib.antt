@@ -1,2 +1,1 @@
-pub mod RollingStarts
 pub mod TableLaws

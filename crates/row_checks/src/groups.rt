@@ -1,8 +1,8 @@
 // The groups that the calls share: the table, the folds, the fraction, the spans.
-ghost use Rattle.std.specs.Prelude.{◌≡◌, ◌||◌, [], ◌∷◌, ◌<◌, ◌≤◌, ltb, eqb, length, IfOk};
+ghost use Rattle.std.specs.Prelude.{◌≡◌, ◌||◌, [], ◌∷◌, ◌<◌, ◌≤◌, ltb, eqb, IfOk};
 ghost use Rattle.paper.specs.Checks.{checked, lengths_differ, no_rows, too_many_rows, bad_folds, bad_fraction, bad_span, bad_minimum, zero_size, nothing_to_test};
 ghost use Rattle.laws.specs.Windows.{Good};
-ghost use Rattle.spans.specs.Tables.{table_of};
+ghost use Rattle.spans.specs.Tables.{table_of, Holds};
 ghost use Rattle.checks.specs.Said.{said_checked};
 
 use checks::numbers::outside;
@@ -13,7 +13,7 @@ use spans::Table;
 // 12: starts and ends differ in length. Where they do not, they are a table.
 pub fn lengths<'a>(starts: &'a [i64], ends: &'a [i64]) -> Result<Table<'a>, Refusal>
     ensures answer { said_checked result ≡ checked (lengths_differ starts.now ends.now ∷ []) tt }
-    ensures passed { IfOk result (λ t. (t.starts.now ≡ starts.now) × (t.ends.now ≡ ends.now)) }
+    ensures passed { IfOk result (λ t. Holds t starts.now ends.now) }
 {
     Table::new(starts, ends).ok_or(Refusal::LengthsDiffer)
 }

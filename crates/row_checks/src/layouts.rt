@@ -4,7 +4,7 @@ ghost use Rattle.std.specs.Prelude.{◌≡◌, [], ◌∷◌, ◌++◌, ◌+◌,
 ghost use Rattle.paper.specs.Sets.{choose};
 ghost use Rattle.paper.specs.Checks.{checked, lengths_differ, no_rows, too_many_rows, bad_span, wrong_length, zero_size, nothing_to_test, no_such, table_checks, combination_checks, walk_forward_checks};
 ghost use Rattle.laws.specs.Windows.{Good};
-ghost use Rattle.spans.specs.Tables.{table_of};
+ghost use Rattle.spans.specs.Tables.{table_of, Holds};
 ghost use Rattle.checks.specs.Said.{said_checked};
 ghost use Rattle.row_checks.specs.RowsAlone.{rows_alone};
 
@@ -18,7 +18,7 @@ use spans::Table;
 // 12, 1, 10: what every table is asked first.
 fn size<'a>(starts: &'a [i64], ends: &'a [i64]) -> Result<Table<'a>, Refusal>
     ensures answer { said_checked result ≡ checked (lengths_differ starts.now ends.now ∷ no_rows (length starts.now) ∷ too_many_rows (length starts.now) ∷ []) tt }
-    ensures passed { IfOk result (λ t. (t.starts.now ≡ starts.now) × (t.ends.now ≡ ends.now) × (length starts.now ≤ 1048576)) }
+    ensures passed { IfOk result (λ t. Holds t starts.now ends.now × (length starts.now ≤ 1048576)) }
 {
     let table = groups::lengths(starts, ends)?;
     groups::rows(table.len())?;
@@ -42,7 +42,7 @@ pub fn folds_of_rows<'a>(
     room: usize,
 ) -> Result<Sound<'a>, Refusal>
     ensures answer { said_checked result ≡ checked (table_checks starts.now ends.now settings room) tt }
-    ensures passed { IfOk result (λ t. (t.table.starts.now ≡ starts.now) × (t.table.ends.now ≡ ends.now)) }
+    ensures passed { IfOk result (λ t. Holds t.table starts.now ends.now) }
 {
     let table = size(starts, ends)?;
     groups::folds(settings.folds, table.len())?;
@@ -60,7 +60,7 @@ pub fn kfold<'a>(
     room: usize,
 ) -> Result<Sound<'a>, Refusal>
     ensures answer { said_checked result ≡ checked (table_checks starts.now ends.now settings room ++ no_such settings.folds s ∷ []) tt }
-    ensures passed { IfOk result (λ t. (t.table.starts.now ≡ starts.now) × (t.table.ends.now ≡ ends.now)) }
+    ensures passed { IfOk result (λ t. Holds t.table starts.now ends.now) }
 {
     let sound = folds_of_rows(starts, ends, settings, room)?;
     numbers::below(settings.folds as u64, s)?;
@@ -77,7 +77,7 @@ pub fn cpcv<'a>(
     room: usize,
 ) -> Result<(Sound<'a>, Choice), Refusal>
     ensures answer { said_checked result ≡ checked (table_checks starts.now ends.now settings room ++ combination_checks settings.folds k ++ no_such (choose settings.folds k) s ∷ []) tt }
-    ensures passed { IfOk result (λ p. (p.0.table.starts.now ≡ starts.now) × (p.0.table.ends.now ≡ ends.now) × (p.1.n ≡ settings.folds) × (p.1.k ≡ k) × (s < choose settings.folds k)) }
+    ensures passed { IfOk result (λ p. Holds p.0.table starts.now ends.now × (p.1.n ≡ settings.folds) × (p.1.k ≡ k) × (s < choose settings.folds k)) }
 {
     let sound = folds_of_rows(starts, ends, settings, room)?;
     let choice = numbers::combinations(settings.folds, k)?;
@@ -95,7 +95,7 @@ pub fn walk_forward<'a>(
     room: usize,
 ) -> Result<Sound<'a>, Refusal>
     ensures answer { said_checked result ≡ checked (walk_forward_checks starts.now ends.now settings m s room) tt }
-    ensures passed { IfOk result (λ t. (t.table.starts.now ≡ starts.now) × (t.table.ends.now ≡ ends.now)) }
+    ensures passed { IfOk result (λ t. Holds t.table starts.now ends.now) }
 {
     let sound = folds_of_rows(starts, ends, settings, room)?;
     groups::minimum(settings.folds, m)?;
@@ -119,7 +119,7 @@ fn rows_alone<'a>(
     room: usize,
 ) -> Result<Sound<'a>, Refusal>
     ensures answer { said_checked result ≡ checked (rows_alone starts.now ends.now x room) tt }
-    ensures passed { IfOk result (λ t. (t.table.starts.now ≡ starts.now) × (t.table.ends.now ≡ ends.now)) }
+    ensures passed { IfOk result (λ t. Holds t.table starts.now ends.now) }
 {
     let table = size(starts, ends)?;
     groups::fraction(x)?;
@@ -136,7 +136,7 @@ pub fn rolling<'a>(
     room: usize,
 ) -> Result<Sound<'a>, Refusal>
     ensures answer { said_checked result ≡ checked (rows_alone starts.now ends.now layout.pct_embargo room ++ zero_size layout.min_train_size layout.test_size layout.step_size ∷ nothing_to_test layout.min_train_size (length starts.now) ∷ no_such (length starts.now) (layout.min_train_size + s * layout.step_size) ∷ []) tt }
-    ensures passed { IfOk result (λ t. (t.table.starts.now ≡ starts.now) × (t.table.ends.now ≡ ends.now)) }
+    ensures passed { IfOk result (λ t. Holds t.table starts.now ends.now) }
 {
     let sound = rows_alone(starts, ends, layout.pct_embargo, room)?;
     let n = sound.table.len();

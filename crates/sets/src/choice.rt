@@ -1,5 +1,5 @@
-// k of n folds in numbers that no check refuses, and a split among their sets (01, "Combinations and paths" and "Refusal
-// numbers": 2, 6, 11, and 13 of a fold set). New against the Rust, which checks anew wherever it needs to know: here what a
+// k of n folds in numbers that 2, 6 and 11 let pass, and a split among their sets, which 13 lets pass (01, "Combinations and
+// paths" and "Refusal numbers"). New against the Rust, which checks anew wherever it needs to know: here what a
 // check has found stays with the numbers.
 ghost use Rattle.std.specs.Prelude.{◌≡◌, true, false, ◌≤◌, ◌<◌, MatchOption};
 ghost use Rattle.paper.specs.Sets.{is_split};

@@ -3,8 +3,7 @@
 // pops. Changed against it:
 // - one step a call, from the set itself;
 // - after the last set there is none.
-ghost use Rattle.std.specs.Prelude.{◌≡◌, true, ◌++◌, ◌≤◌, ◌+◌, length, take};
-ghost use Rattle.paper.specs.Sets.{is_split};
+ghost use Rattle.std.specs.Prelude.{◌≡◌, ◌++◌, ◌≤◌, ◌+◌, length, take};
 ghost use Rattle.paper.specs.Handed.{handed, list_of};
 ghost use Rattle.paper.specs.Places.{next_folds};
 ghost use Rattle.sets.specs.Work.{Tidy, Turn, past, up};

@@ -4,8 +4,8 @@
 // - one split a call, by its number: the recursion chooses a part by a binomial and goes into that part only;
 // - the set is a struct with its folds in the first of 64 places, where the Rust has a `Vec`;
 // - the way back is new.
-ghost use Rattle.std.specs.Prelude.{◌≡◌, true, [], ◌∷◌, ◌++◌, ◌≤◌, ◌<◌, ◌+◌, get_or, drop};
-ghost use Rattle.paper.specs.Sets.{choose, listing, entry, is_split};
+ghost use Rattle.std.specs.Prelude.{◌≡◌, [], ◌∷◌, ◌++◌, ◌<◌, ◌+◌, get_or, drop};
+ghost use Rattle.paper.specs.Sets.{choose, listing, entry};
 ghost use Rattle.paper.specs.Handed.{handed, list_of};
 ghost use Rattle.paper.specs.Places.{place_of};
 ghost use Rattle.sets.specs.Work.{Tidy, Rest, Tail, Place};

@@ -2,7 +2,7 @@
 // Every function answers on any bytes; what it answers is what they spell, and `None` says that they spell nothing.
 #![tactic(auto)]
 
-ghost use Rattle.std.specs.Prelude.{◌≡◌, ◌<◌, ◌≤◌, ◌^◌, ℕ, List, Option, Some, negsuc};
+ghost use Rattle.std.specs.Prelude.{◌≡◌, ◌<◌, ℕ, List, Option, Some};
 ghost use Rattle.std.specs.Float.{binary64};
 ghost use Rattle.std.specs.Float.Ieee.{of_bits};
 ghost use Rattle.text.specs.Numbers.{digit_of, below, word_of, canonical, decimal_of, upward, downward, signed_of, double_of, letter_of};

@@ -22,6 +22,6 @@ returns-clause-list c =
     let a = c.args in
     let t = c.in_ok-table.ensures in
     let p = t.passed in
-    (rw (p.0, p.1, p.2, p.3) at c.write_flags.ensures)
+    (rw (p.0.0, p.0.1, p.1.0, p.1.1) at c.write_flags.ensures)
     ∙ lent_passed (train_times_checks a.starts.now a.ends.now a.tests.now a.testends.now (length a.flags.now)) (tt {0}) t.answer (tt {0}) a.flags.now
     (flags_of a.starts.now a.ends.now a.tests.now a.testends.now)

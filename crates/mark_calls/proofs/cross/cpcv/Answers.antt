@@ -50,10 +50,10 @@ mark_folds-counts-requires c =
     let a = c.args in
     let p = c.in_ok-sound.ensures.passed in
     let t = shown (goal.at.mark_folds-counts-requires c).In_ok-sound in
-    let e = rw (p.2, p.3) at c.set_at-set.ensures in
+    let e = rw (p.1, p.2) at c.set_at-set.ensures in
     record {
-      fits = rw p.0 t.0.fits;
-      set_in = rw p.0 (entry_in a.settings.folds a.k a.split.0 t.1 t.2 t.3 e);
+      fits = rw p.0.0 t.0.fits;
+      set_in = rw p.0.0 (entry_in a.settings.folds a.k a.split.0 t.1 t.2 t.3 e);
     }
 
 pub returns-in_err-sound-clause-answer : goal.returns-in_err-sound-clause-answer
@@ -79,10 +79,10 @@ returns c =
     let t = c.in_ok-sound.sound.table in
     let p = c.in_ok-sound.ensures.passed in
     let h = c.in_ok-sound.ensures.answer in
-    let e = entry_list a.settings.folds a.k a.split.0 (rw (p.2, p.3) at c.set_at-set.ensures) in
+    let e = entry_list a.settings.folds a.k a.split.0 (rw (p.1, p.2) at c.set_at-set.ensures) in
     let same :
     marks_of r (table t.starts.now t.ends.now) (cross (folds (even_borders (length t.starts.now) a.settings.folds) (list_of c.set_at-set.result)) c.rounded_up-width.result) ≡ marks =
-    rw (e, c.rounded_up-width.ensures, c.len.ensures, p.0, p.1) refl
+    rw (e, c.rounded_up-width.ensures, c.len.ensures, p.0.0, p.0.1) refl
     in
     record {
       answer = marked_says f r marks a.marks.now h c.trained.result (c.mark_folds-counts.ensures.counted ∙ ap counts_of same) c.trained.ensures;

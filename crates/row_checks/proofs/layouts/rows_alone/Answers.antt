@@ -15,7 +15,7 @@ returns-in_err-table-clause-answer c =
 pub returns-in_err-fraction-clause-answer : goal.returns-in_err-fraction-clause-answer
 returns-in_err-fraction-clause-answer c =
     let a = c.args in
-    let t = c.in_ok-table.ensures.passed in
+    let t = c.in_ok-table.ensures.passed.0 in
     rw (exit_is _ _ c.from_residual-in_err-fraction.ensures.1)
     (passed_first (lengths_differ a.starts.now a.ends.now ∷ no_rows (length a.starts.now) ∷ too_many_rows (length a.starts.now) ∷ []) ((bad_fraction a.x ∷ []) ++ (bad_span (table a.starts.now a.ends.now) ∷ wrong_length a.room (length a.starts.now) ∷ [])) (tt {0}) (tt {0})
     c.in_ok-table.ensures.answer
@@ -24,7 +24,7 @@ returns-in_err-fraction-clause-answer c =
 pub returns-in_err-spans_and_room-clause-answer : goal.returns-in_err-spans_and_room-clause-answer
 returns-in_err-spans_and_room-clause-answer c =
     let a = c.args in
-    let t = c.in_ok-table.ensures.passed in
+    let t = c.in_ok-table.ensures.passed.0 in
     rw (exit_is _ _ c.from_residual-in_err-spans_and_room.ensures.1)
     (passed_first (lengths_differ a.starts.now a.ends.now ∷ no_rows (length a.starts.now) ∷ too_many_rows (length a.starts.now) ∷ []) ((bad_fraction a.x ∷ []) ++ (bad_span (table a.starts.now a.ends.now) ∷ wrong_length a.room (length a.starts.now) ∷ [])) (tt {0}) (tt {0})
     c.in_ok-table.ensures.answer
@@ -35,12 +35,12 @@ returns-in_err-spans_and_room-clause-answer c =
 pub invariant_of-result : goal.invariant_of-result
 invariant_of-result c =
     let t = c.in_ok-table.ensures.passed in
-    record { few = rw t.0 t.2; good = c.in_ok-spans_and_room.ensures.passed }
+    record { few = rw t.0.0 t.1; good = c.in_ok-spans_and_room.ensures.passed }
 
 pub returns-clause-answer : goal.returns-clause-answer
 returns-clause-answer c =
     let a = c.args in
-    let t = c.in_ok-table.ensures.passed in
+    let t = c.in_ok-table.ensures.passed.0 in
     passed_first (lengths_differ a.starts.now a.ends.now ∷ no_rows (length a.starts.now) ∷ too_many_rows (length a.starts.now) ∷ []) ((bad_fraction a.x ∷ []) ++ (bad_span (table a.starts.now a.ends.now) ∷ wrong_length a.room (length a.starts.now) ∷ [])) (tt {0}) (tt {0})
     c.in_ok-table.ensures.answer
     (passed_first (bad_fraction a.x ∷ []) ((bad_span (table a.starts.now a.ends.now) ∷ wrong_length a.room (length a.starts.now) ∷ [])) (tt {0}) (tt {0})
