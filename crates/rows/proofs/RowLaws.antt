@@ -2,14 +2,14 @@
 use mathlib.Core.Path.{◌≡◌, refl, sym, ap, ap₂, ◌∙◌}
 use mathlib.Core.Bool.{Bool, true, false, ◌&&◌}
 use mathlib.Core.List.{List}
-use Prim.Native.Nat.{ℕ, zero, suc, ◌+◌, ◌<◌}
+use Prim.Native.Nat.{ℕ, zero, suc, ◌+◌, ◌≤◌, ◌<◌}
 use native.Mathlib.Numerals.{add-one}
 use native.Mathlib.Omega.{arith}
 use lib.Dec.{leb}
 use lib.ListN.{length}
 use borrow.Author.Tests.{ne_eqb}
 use Rattle.lists.specs.Base.{any}
-use Rattle.lists.specs.AnyLaws.{any_ext}
+use Rattle.lists.specs.AnyLaws.{any_ext, any_here, any_miss}
 use Rattle.paper.specs.Spans.{overlaps}
 use Rattle.paper.specs.Blocks.{latest}
 use Rattle.paper.specs.Embargo.{embargo_from}
@@ -78,3 +78,17 @@ module _ {t : table.Table} {bs : List Block} where
       (λ j l e. h.bounds.embargo j l ∙ ap (embargo_from T (block_firsts bs j)) (sym (block_past h.blocks j l))) width i p
       (row_purged r h i)
       ∙ ap (mark tested (leb used i) p) (any-heads h.blocks (λ j. covers (embargoes bs j) width i))
+
+-- ---- a search over the blocks
+
+-- None of those passed, which are all: the answer is no.
+pub none_of : (p : ℕ → Bool) (i n : ℕ) → any p i ≡ false → i ≤ n → n ≤ i → false ≡ any p n
+none_of p i n h a b = let z : i ≡ n = omega arith in sym (rw z at h)
+
+-- One of them is hit: the answer is yes.
+pub one_of : (p : ℕ → Bool) (i n : ℕ) {t : Bool} → i < n → t ≡ p i → t ≡ true → true ≡ any p n
+one_of p i n l e h = sym (any_here p n i l (sym e ∙ h))
+
+-- This one is not hit: none so far.
+pub not_yet : (p : ℕ → Bool) (i : ℕ) {t : Bool} → any p i ≡ false → t ≡ p i → t ≡ false → any p (i + 1) ≡ false
+not_yet p i h e f = any_miss p i h (sym e ∙ f)

@@ -1,7 +1,6 @@
-use mathlib.Core.Path.{◌≡◌, sym, ◌∙◌}
 use native.Mathlib.Omega.{arith}
-use lib.ListN.{length}
-use Rattle.lists.specs.AnyLaws.{any_zero, any_here, any_miss}
+use Rattle.lists.specs.AnyLaws.{any_zero}
+use Rattle.rows.proofs.RowLaws.{none_of, one_of, not_yet}
 use Rattle.rows.proofs.Marker.purged.Goals as goal
 
 pub loop-block-init : goal.loop-block-init
@@ -14,14 +13,10 @@ hit-requires c =
     (omega (arith, w.some j (omega arith)), w.fits j (omega arith))
 
 pub returns-then-hit : goal.returns-then-hit
-returns-then-hit c =
-    sym (any_here _ _ c.loop-block.block-index (omega arith) (sym c.hit.ensures ∙ c.if-hit.true))
+returns-then-hit c = one_of _ c.loop-block.block-index _ (omega arith) c.hit.ensures c.if-hit.true
 
 pub loop-block-preserved : goal.loop-block-preserved
-loop-block-preserved c =
-    any_miss _ c.loop-block.block-index c.loop-block.invariant (sym c.hit.ensures ∙ c.if-hit.false)
+loop-block-preserved c = not_yet _ c.loop-block.block-index c.loop-block.invariant c.hit.ensures c.if-hit.false
 
 pub returns : goal.returns
-returns c =
-    let z : c.loop-block.block-index ≡ length c.args.self.now.blocks.now = omega arith in
-    sym (rw z at c.loop-block.invariant)
+returns c = none_of _ c.loop-block.block-index _ c.loop-block.invariant (omega arith) (omega arith)

@@ -1,21 +1,16 @@
-use mathlib.Core.Path.{◌≡◌, sym, ◌∙◌}
 use native.Mathlib.Omega.{arith}
-use lib.ListN.{length}
-use Rattle.lists.specs.AnyLaws.{any_zero, any_here, any_miss}
+use Rattle.lists.specs.AnyLaws.{any_zero}
+use Rattle.rows.proofs.RowLaws.{none_of, one_of, not_yet}
 use Rattle.rows.proofs.Marker.tested.Goals as goal
 
 pub loop-block-init : goal.loop-block-init
 loop-block-init c = any_zero _
 
 pub returns-then-contains : goal.returns-then-contains
-returns-then-contains c =
-    sym (any_here _ _ c.loop-block.block-index (omega arith) (sym c.contains.ensures ∙ c.if-contains.true))
+returns-then-contains c = one_of _ c.loop-block.block-index _ (omega arith) c.contains.ensures c.if-contains.true
 
 pub loop-block-preserved : goal.loop-block-preserved
-loop-block-preserved c =
-    any_miss _ c.loop-block.block-index c.loop-block.invariant (sym c.contains.ensures ∙ c.if-contains.false)
+loop-block-preserved c = not_yet _ c.loop-block.block-index c.loop-block.invariant c.contains.ensures c.if-contains.false
 
 pub returns : goal.returns
-returns c =
-    let z : c.loop-block.block-index ≡ length c.args.self.now.blocks.now = omega arith in
-    sym (rw z at c.loop-block.invariant)
+returns c = none_of _ c.loop-block.block-index _ c.loop-block.invariant (omega arith) (omega arith)
