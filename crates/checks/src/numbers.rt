@@ -4,11 +4,11 @@
 // - more than 64 folds get a refusal of their own, 11;
 // - a number that is none gets 13, where the Rust hands out all splits and paths and is given no numbers;
 // - the whole path goes into a lent list, and one that is not N long gets 5;
-// - numbers that pass come back as a `Choice`, and a fold set as a `Split`, so that nothing behind the checks asks again.
-ghost use Rattle.std.specs.Prelude.{◌≡◌, ◌||◌, [], ◌∷◌, ◌<◌, eqb, leb, IfOk};
+// - numbers that pass come back as a `Choice`, and with a fold set as a `Split`, so that the calls need not test them again.
+ghost use Rattle.std.specs.Prelude.{◌≡◌, ◌||◌, [], ◌∷◌, ◌<◌, ◌≤◌, true, eqb, leb, IfOk};
 ghost use Rattle.paper.specs.Handed.{list_of};
 ghost use Rattle.paper.specs.Checks.{checked, few_folds, combination_checks, no_such, no_split, numbers_checks, split_checks, set_checks, path_checks, whole_path_checks, wrong_length};
-ghost use Rattle.paper.specs.Sets.{choose};
+ghost use Rattle.paper.specs.Sets.{choose, is_split};
 ghost use Rattle.paper.specs.Paths.{paths};
 ghost use Rattle.checks.specs.Said.{said_checked};
 
@@ -67,15 +67,24 @@ pub fn split_number(choice: Choice, s: u64) -> Result<(), Refusal>
 }
 
 // 13 of a path number.
-pub fn path_number(choice: Choice, p: u64) -> Result<(), Refusal>
-    ensures answer { said_checked result ≡ checked (no_such (paths choice.n choice.k) p ∷ []) tt }
-    ensures passed { IfOk result (λ _. p < paths choice.n choice.k) }
+pub fn path_number(n: usize, k: usize, p: u64) -> Result<(), Refusal>
+    requires { (0 < n) × (n ≤ 64) × (0 < k) }
+    ensures answer { said_checked result ≡ checked (no_such (paths n k) p ∷ []) tt }
+    ensures passed { IfOk result (λ _. p < paths n k) }
 {
-    below(n_choose_k(choice.n - 1, choice.k - 1), p)
+    below(n_choose_k(n - 1, k - 1), p)
 }
 
-// 13 of a fold set.
-pub fn fold_set(choice: Choice, set: FoldSet) -> Result<Split, Refusal>
+// 13 of a fold set, of any n and k.
+pub fn fold_set(n: usize, k: usize, set: FoldSet) -> Result<(), Refusal>
+    ensures answer { said_checked result ≡ checked (no_split n k (list_of set) ∷ []) tt }
+    ensures passed { IfOk result (λ _. is_split n k (list_of set) ≡ true) }
+{
+    refuse_if(!sets::is_split(n, k, set), Refusal::NoSuchNumber)
+}
+
+// 13 of a fold set where N and k have passed: the split that it is.
+pub fn split_of(choice: Choice, set: FoldSet) -> Result<Split, Refusal>
     ensures answer { said_checked result ≡ checked (no_split choice.n choice.k (list_of set) ∷ []) tt }
     ensures passed { IfOk result (λ s. (s.choice.n ≡ choice.n) × (s.choice.k ≡ choice.k) × (s.set ≡ set)) }
 {
@@ -106,7 +115,7 @@ pub fn set(n: usize, k: usize, folds: FoldSet) -> Result<Split, Refusal>
     ensures answer { said_checked result ≡ checked (set_checks n k (list_of folds)) tt }
     ensures passed { IfOk result (λ s. (s.choice.n ≡ n) × (s.choice.k ≡ k) × (s.set ≡ folds)) }
 {
-    fold_set(counts(n, k)?, folds)
+    split_of(counts(n, k)?, folds)
 }
 
 // All checks of the split on a path.
@@ -115,7 +124,7 @@ pub fn path(n: usize, k: usize, p: u64, g: usize) -> Result<Choice, Refusal>
     ensures passed { IfOk result (λ c. (c.n ≡ n) × (c.k ≡ k) × (p < paths n k) × (g < n)) }
 {
     let choice = counts(n, k)?;
-    path_number(choice, p)?;
+    path_number(choice.n, choice.k, p)?;
     below(choice.n as u64, g as u64)?;
     Ok(choice)
 }
@@ -128,6 +137,6 @@ pub fn whole_path(n: usize, k: usize, p: u64, long: usize) -> Result<Choice, Ref
     few_folds(n)?;
     list_length(long, n)?;
     let choice = combinations(n, k)?;
-    path_number(choice, p)?;
+    path_number(choice.n, choice.k, p)?;
     Ok(choice)
 }

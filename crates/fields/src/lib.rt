@@ -3,7 +3,7 @@
 // place that the one before handed on; the place past the end says that the last field has been read.
 #![tactic(auto)]
 
-ghost use Rattle.std.specs.Prelude.{◌≡◌, ◌==◌, ◌≤◌, length, position};
+ghost use Rattle.std.specs.Prelude.{◌≡◌, ◌≤◌, length};
 ghost use Rattle.fields.specs.Parts.{find_from, Ends, field_as};
 
 use text::Spelled;
@@ -12,16 +12,9 @@ use text::Spelled;
 pub fn find(s: &[u8], from: usize, byte: u8) -> usize
     ensures { result ≡ find_from byte s.now from }
 {
-    let Some(rest) = s.get(from..) else {
-        return from;
-    };
-    from + first(rest, byte).unwrap_or(rest.len())
-}
-
-fn first(s: &[u8], byte: u8) -> Option<usize>
-    ensures { result ≡ position (λ b. b == byte) s.now }
-{
-    s.iter().position(|b| *b == byte)
+    (from..s.len())
+        .find(|i| s[*i] == byte)
+        .unwrap_or(from.max(s.len()))
 }
 
 // Where the field that begins at `from` ends.

@@ -10,10 +10,11 @@ use Rattle.folds.specs.declared.RowRange.{RowRange}
 use Rattle.folds.specs.Found.{bounds_of}
 
 module _ (n N f : ℕ) (h : f < N) where
-  abbrev rows : RowRange
+  abbrev pub rows : RowRange
   rows = record { first = even_border n N f; past = even_border n N (f + 1) }
 
-  found : bounds_of n N f ≡ Some rows
+  -- There is such a fold.
+  pub found : bounds_of n N f ≡ Some rows
   found = rw (lt-ltb f N h)
 
   pub bounds_rows : (r : RowRange) → bounds_of n N f ≡ Some r → r ≡ rows

@@ -5,8 +5,10 @@ use mathlib.Core.List.{List}
 use Prim.Native.Nat.{ℕ, ◌+◌, ◌≤◌, ◌<◌}
 use native.Mathlib.Omega.{arith}
 use lib.Dec.{leb}
+use lib.IntN.{ℤ}
 use lib.ListN.{length}
 use Rattle.paper.specs.declared.answers.Counts.{Counts}
+use Rattle.paper.specs.Spans.{table}
 use Rattle.paper.specs.Folds.{Rows}
 use Rattle.paper.specs.Marks.{Split, marks_of}
 use Rattle.laws.specs.Ranges.{ranged_ext}
@@ -29,16 +31,16 @@ use Rattle.marks.specs.Ways.{way_of}
 
 -- The rule that is worked by gives the marks that are asked for: where it is another, starts never decrease.
 way_same :
-    (r : Rule) (t : Table) → Good (table_of t) → (s : Split) →
-    marks_of (rule_of (way_of r (starts_fall t.starts.now))) (table_of t) s ≡ marks_of (rule_of r) (table_of t) s
-way_same Window t g s = refl
-way_same Pair t g s = go (starts_fall t.starts.now) refl
+    (r : Rule) (starts ends : List ℤ) → Good (table starts ends) → (s : Split) →
+    marks_of (rule_of (way_of r (starts_fall starts))) (table starts ends) s ≡ marks_of (rule_of r) (table starts ends) s
+way_same Window starts ends g s = refl
+way_same Pair starts ends g s = go (starts_fall starts) refl
   where
     go :
-        (f : Bool) → starts_fall t.starts.now ≡ f →
-        marks_of (rule_of (way_of Pair (starts_fall t.starts.now))) (table_of t) s ≡ marks_of (rule_of Pair) (table_of t) s
+        (f : Bool) → starts_fall starts ≡ f →
+        marks_of (rule_of (way_of Pair (starts_fall starts))) (table starts ends) s ≡ marks_of (rule_of Pair) (table starts ends) s
     go true e = rw e
-    go false e = rw e (agreement g (ordered_table (table_of t) e) s)
+    go false e = rw e (agreement g (ordered_table (table starts ends) e) s)
 
 -- Joined ranges test the same rows.
 split_same :
@@ -47,15 +49,14 @@ split_same :
 split_same j unused width = ap (λ t. record { test = t; unused = unused; width = width }) (fun_ext (λ i. sym (j.same i)))
 
 pub blocks_written :
-    (t : Table) (ranges blocks : List RowRange) → Good (table_of t) →
-    Joined (firsts ranges) (pasts ranges) (length ranges) (firsts blocks) (pasts blocks) (length blocks) (rows_in t) →
-    (r by : Rule) (used width : ℕ) (marks : List ℕ) (counts : Counts) → by ≡ way_of r (starts_fall t.starts.now) →
-    Written (marks_of (rule_of by) (table_of t) (list_split blocks used width)) marks counts →
-    Written (marks_of (rule_of r) (table_of t) (list_split ranges used width)) marks counts
-blocks_written t ranges blocks g j r by used width marks counts e w =
-    let T = table_of t in
+    (starts ends : List ℤ) {F G B E : ℕ → ℕ} {k m : ℕ} → Good (table starts ends) → Joined F G k B E m (length starts) →
+    (r by : Rule) (unused : Rows) (width : ℕ) (marks : List ℕ) (counts : Counts) → by ≡ way_of r (starts_fall starts) →
+    Written (marks_of (rule_of by) (table starts ends) (ranged_split B E m unused width)) marks counts →
+    Written (marks_of (rule_of r) (table starts ends) (ranged_split F G k unused width)) marks counts
+blocks_written starts ends g j r by unused width marks counts e w =
+    let T = table starts ends in
     let same =
-    way_same r t g (list_split blocks used width) ∙ ap (marks_of (rule_of r) T) (split_same j (leb used) width)
+    way_same r starts ends g (ranged_split _ _ _ unused width) ∙ ap (marks_of (rule_of r) T) (split_same j unused width)
     in
     rw (sym same) (rw e at w)
 

@@ -1,12 +1,14 @@
 // The kinds of lines.
-use paper::Rule;
 
+// In the order in which they are reported. No call answers the last two.
 #[derive(Clone, Copy, PartialEq, Eq)]
 pub enum Kind {
     Table,
-    Kfold(Rule),
-    Cpcv(Rule),
+    KfoldWindow,
+    CpcvWindow,
     WalkForward,
+    KfoldPair,
+    CpcvPair,
     Rolling,
     FoldsOfSplit,
     WholePath,
@@ -19,14 +21,14 @@ pub enum Kind {
     Joining,
 }
 
-// In the order in which they are reported. No call answers the last two.
+// All of them, in the same order.
 pub const KINDS: [Kind; 16] = [
     Kind::Table,
-    Kind::Kfold(Rule::Window),
-    Kind::Cpcv(Rule::Window),
+    Kind::KfoldWindow,
+    Kind::CpcvWindow,
     Kind::WalkForward,
-    Kind::Kfold(Rule::Pair),
-    Kind::Cpcv(Rule::Pair),
+    Kind::KfoldPair,
+    Kind::CpcvPair,
     Kind::Rolling,
     Kind::FoldsOfSplit,
     Kind::WholePath,
@@ -43,11 +45,11 @@ impl Kind {
     pub fn name(self) -> &'static str {
         match self {
             Kind::Table => "T",
-            Kind::Kfold(Rule::Window) => "KW",
-            Kind::Cpcv(Rule::Window) => "CW",
+            Kind::KfoldWindow => "KW",
+            Kind::CpcvWindow => "CW",
             Kind::WalkForward => "WF",
-            Kind::Kfold(Rule::Pair) => "KP",
-            Kind::Cpcv(Rule::Pair) => "CP",
+            Kind::KfoldPair => "KP",
+            Kind::CpcvPair => "CP",
             Kind::Rolling => "RP",
             Kind::FoldsOfSplit => "CF",
             Kind::WholePath => "PA",
@@ -64,18 +66,45 @@ impl Kind {
     // The kind that a line opens with.
     pub fn of_line(line: &[u8]) -> Kind {
         match line {
-            [_, b'\t', _, ..] => Kind::named(&line[..1]),
-            [_, _, b'\t', ..] => Kind::named(&line[..2]),
+            [b'T', b'\t', _, ..] => Kind::Table,
+            [b'E', b'\t', _, ..] => Kind::WholeRun,
+            [_, b'\t', ..] => Kind::Unknown,
+            [a, b, b'\t', ..] => Kind::of_letters(*a, *b),
             _ => Kind::Unknown,
         }
     }
 
-    fn named(name: &[u8]) -> Kind {
-        KINDS
-            .iter()
-            .copied()
-            .find(|kind| kind.name().as_bytes() == name)
-            .unwrap_or(Kind::Unknown)
+    fn of_letters(a: u8, b: u8) -> Kind {
+        match (a, b) {
+            (b'K', b'W') => Kind::KfoldWindow,
+            (b'C', b'W') => Kind::CpcvWindow,
+            (b'W', b'F') => Kind::WalkForward,
+            (b'K', b'P') => Kind::KfoldPair,
+            (b'C', b'P') => Kind::CpcvPair,
+            (b'R', b'P') => Kind::Rolling,
+            (b'C', b'F') => Kind::FoldsOfSplit,
+            (b'P', b'A') => Kind::WholePath,
+            (b'P', b'C') => Kind::PathCount,
+            (b'N', b'K') => Kind::PlainFold,
+            (b'T', b'T') => Kind::TrainTimes,
+            (b'O', b'C') => Kind::OverlapCount,
+            (b'J', b'N') => Kind::Joining,
+            _ => Kind::Unknown,
+        }
+    }
+
+    // Is it asked of the table? The others need none.
+    pub fn needs_table(self) -> bool {
+        matches!(
+            self,
+            Kind::KfoldWindow
+                | Kind::CpcvWindow
+                | Kind::WalkForward
+                | Kind::KfoldPair
+                | Kind::CpcvPair
+                | Kind::Rolling
+                | Kind::TrainTimes
+        )
     }
 
     pub fn is_skipped(self) -> bool {

@@ -77,9 +77,13 @@ pub fn plain_fold(line: &mut Cursor) -> Option<()> {
     }
 }
 
-// The test spans stand in the line.
-pub fn train_times(line: &mut Cursor, spans: Spans, flags: &mut [u8]) -> Option<()> {
-    let mut table = Table::new();
+// The test spans stand in the line, and are read into the table that is lent for them.
+pub fn train_times(
+    line: &mut Cursor,
+    spans: Spans,
+    table: &mut Table,
+    flags: &mut [u8],
+) -> Option<()> {
     table.read(line)?;
     line.expect(b'=')?;
     let tests = table.spans();

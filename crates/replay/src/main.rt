@@ -14,30 +14,40 @@ mod tally;
 
 use answers::Verdict;
 use kinds::Kind;
+use paper::Rule;
 use reads::Cursor;
 use std::io;
 use std::io::Read;
-use tables::{Spans, Table};
+use tables::Table;
 use tally::Tallies;
 
-fn question(kind: Kind, line: &mut Cursor, spans: Spans, marks: &mut [u8]) -> Option<Verdict> {
+// The questions about the table: a split of it, or train times.
+fn about_table(kind: Kind, line: &mut Cursor, table: &Table, tests: &mut Table) -> Option<Verdict> {
+    let mut room = [0u8; 256];
+    let marks = &mut room[..table.rows()];
+    let spans = table.spans();
     match kind {
-        Kind::Kfold(rule) => marked::kfold(line, rule, spans, marks),
-        Kind::Cpcv(rule) => marked::cpcv(line, rule, spans, marks),
+        Kind::KfoldWindow => marked::kfold(line, Rule::Window, spans, marks),
+        Kind::KfoldPair => marked::kfold(line, Rule::Pair, spans, marks),
+        Kind::CpcvWindow => marked::cpcv(line, Rule::Window, spans, marks),
+        Kind::CpcvPair => marked::cpcv(line, Rule::Pair, spans, marks),
         Kind::WalkForward => marked::walk_forward(line, spans, marks),
         Kind::Rolling => marked::rolling(line, spans, marks),
-        _ => Some(Verdict::Line(plain(kind, line, spans, marks).is_some())),
+        Kind::TrainTimes => {
+            listed::train_times(line, spans, tests, marks)?;
+            Some(Verdict::Line(true))
+        }
+        _ => None,
     }
 }
 
-// The questions that are not about a split of the table.
-fn plain(kind: Kind, line: &mut Cursor, spans: Spans, marks: &mut [u8]) -> Option<()> {
+// The questions that need no table.
+fn plain(kind: Kind, line: &mut Cursor) -> Option<()> {
     match kind {
         Kind::FoldsOfSplit => listed::folds_of_split(line),
         Kind::WholePath => listed::whole_path(line),
         Kind::PathCount => listed::path_count(line),
         Kind::PlainFold => listed::plain_fold(line),
-        Kind::TrainTimes => listed::train_times(line, spans, marks),
         Kind::OverlapCount | Kind::Joining => Some(()),
         _ => None,
     }
@@ -46,6 +56,7 @@ fn plain(kind: Kind, line: &mut Cursor, spans: Spans, marks: &mut [u8]) -> Optio
 #[derive(Drop)]
 struct Replay {
     table: Table,
+    tests: Table,
     tallies: Tallies,
     number: u64,
 }
@@ -54,6 +65,7 @@ impl Replay {
     fn new() -> Replay {
         Replay {
             table: Table::new(),
+            tests: Table::new(),
             tallies: Tallies::new(),
             number: 0,
         }
@@ -70,23 +82,28 @@ impl Replay {
     fn line(&mut self, line: &[u8]) {
         self.number = self.number.wrapping_add(1);
         let kind = Kind::of_line(line);
-        let mut fields = Cursor::new(line, kind.name().len() + 1);
-        let (kind, same) = match self.verdict(kind, &mut fields) {
+        let (kind, same) = match self.verdict(kind, line) {
             Verdict::Line(same) => (kind, same),
             Verdict::Run(same) => (Kind::WholeRun, same),
         };
         self.tallies.note(kind, same, self.number);
     }
 
-    // A table is read, and is there for the lines after it.
-    fn verdict(&mut self, kind: Kind, line: &mut Cursor) -> Verdict {
+    // A table is read, and is there for the lines after it. The name of a table has one letter, and those of questions two.
+    fn verdict(&mut self, kind: Kind, line: &[u8]) -> Verdict {
         if kind == Kind::Table {
-            let read = self.table.read(line);
-            return Verdict::Line(read.is_some() && line.ended().is_some());
+            let mut fields = Cursor::new(line, 2);
+            let read = self.table.read(&mut fields);
+            return Verdict::Line(read.is_some() && fields.ended().is_some());
         }
-        let mut room = [0u8; 256];
-        let marks = &mut room[..self.table.rows()];
-        question(kind, line, self.table.spans(), marks).unwrap_or(Verdict::Line(false))
+        let mut fields = Cursor::new(line, 3);
+        if kind.needs_table() {
+            about_table(kind, &mut fields, &self.table, &mut self.tests).unwrap_or(Verdict::Line(
+                false,
+            ))
+        } else {
+            Verdict::Line(plain(kind, &mut fields).is_some())
+        }
     }
 }
 

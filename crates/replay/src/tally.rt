@@ -43,10 +43,8 @@ impl Tallies {
     }
 
     pub fn note(&mut self, kind: Kind, same: bool, number: u64) {
-        for tally in &mut self.of {
-            if tally.kind == kind {
-                tally.note(same, number);
-            }
+        if let Some(tally) = self.of.get_mut(kind as usize) {
+            tally.note(same, number);
         }
     }
 

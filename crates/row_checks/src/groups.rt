@@ -72,11 +72,19 @@ fn zero_size(layout: Rolling) -> bool
     layout.min_train_size == 0 || layout.test_size == 0 || layout.step_size == 0
 }
 
-// 15 and 16: a size or step of the rolling layout is 0, or no row is left to test.
-pub fn sizes(layout: Rolling, n: usize) -> Result<(), Refusal>
+// 15: a size or step of the rolling layout is 0.
+pub fn sizes(layout: Rolling) -> Result<(), Refusal>
+    ensures answer { said_checked result ≡ checked (zero_size layout.min_train_size layout.test_size layout.step_size ∷ []) tt }
+    ensures passed { IfOk result (λ _. 0 < layout.step_size) }
+{
+    refuse_if(zero_size(layout), Refusal::ZeroSize)
+}
+
+// 15 and 16: besides, no row is left to test.
+pub fn sizes_within(layout: Rolling, n: usize) -> Result<(), Refusal>
     ensures answer { said_checked result ≡ checked (zero_size layout.min_train_size layout.test_size layout.step_size ∷ nothing_to_test layout.min_train_size n ∷ []) tt }
     ensures passed { IfOk result (λ _. (layout.min_train_size < n) × (0 < layout.step_size)) }
 {
-    refuse_if(zero_size(layout), Refusal::ZeroSize)?;
+    sizes(layout)?;
     refuse_if(n <= layout.min_train_size, Refusal::NothingToTest)
 }

@@ -140,7 +140,7 @@ pub fn rolling<'a>(
 {
     let sound = rows_alone(starts, ends, layout.pct_embargo, room)?;
     let n = sound.table.len();
-    groups::sizes(layout, n)?;
+    groups::sizes_within(layout, n)?;
     let past = begins_past(n, layout.min_train_size, layout.step_size, s);
     refuse_if(past, Refusal::NoSuchNumber)?;
     Ok(sound)

@@ -5,17 +5,17 @@ use mathlib.Core.List.{List}
 use Prim.Native.Nat.{ℕ, zero, suc, ◌+◌, ◌≤◌, ◌<◌}
 use native.Mathlib.Numerals.{add-one}
 use native.Mathlib.Omega.{arith}
-use lib.Dec.{leb}
 use lib.ListN.{length}
 use borrow.Author.Tests.{ne_eqb}
 use Rattle.lists.specs.Base.{any}
 use Rattle.lists.specs.AnyLaws.{any_ext, any_here, any_miss}
 use Rattle.paper.specs.Spans.{overlaps}
+use Rattle.paper.specs.Folds.{Rows}
 use Rattle.paper.specs.Blocks.{latest}
 use Rattle.paper.specs.Embargo.{embargo_from}
 use Rattle.paper.specs.Marks.{purged, mark, mark_of}
 use Rattle.laws.specs.Ranges.{ranged, Ranges, touches, heads, past_range, past_ends}
-use Rattle.laws.specs.Worker.{covers}
+use Rattle.laws.specs.Worker.{covers, ranged_split}
 use Rattle.laws.proofs.WorkerLaws.{worker_window, worker_hulls, worker_mark}
 use Rattle.spans.specs.declared.table.Table as table
 use Rattle.spans.specs.Tables.{table_of}
@@ -23,7 +23,7 @@ use Rattle.blocks.specs.declared.Block.{Block}
 use Rattle.paper.specs.declared.rule.Rule.{Rule}
 use Rattle.paper.specs.declared.rule.Rule.TheVariants.{Window, Pair}
 use Rattle.paper.specs.Rules.{rule_of}
-use Rattle.blocks.specs.Held.{block_firsts, block_pasts, windows, embargoes, block_split, Blocks}
+use Rattle.blocks.specs.Held.{block_firsts, block_pasts, windows, embargoes, Blocks}
 use Rattle.rows.specs.Asked.{purged_by, covered_by, Held}
 
 module _ {F G : ℕ → ℕ} {k n : ℕ} (w : Blocks F G k n) where
@@ -65,19 +65,19 @@ module _ {t : table.Table} {bs : List Block} where
 
   -- So the three searches give the row's mark.
   pub row_marked :
-      (r : Rule) → Held r t bs → (used width i : ℕ) →
-      mark_of (rule_of r) (table_of t) (block_split bs used width) i
-      ≡ mark (ranged (block_firsts bs) (block_pasts bs) (length bs) i) (leb used i)
+      (r : Rule) → Held r t bs → (unused : Rows) (width i : ℕ) →
+      mark_of (rule_of r) (table_of t) (ranged_split (block_firsts bs) (block_pasts bs) (length bs) unused width) i
+      ≡ mark (ranged (block_firsts bs) (block_pasts bs) (length bs) i) (unused i)
       (purged_by r (table_of t) (block_firsts bs) (block_pasts bs) (windows bs) ((table_of t).span i) (length bs))
       (covered_by (embargoes bs) width i (length bs))
-  row_marked r h used width i =
+  row_marked r h unused width i =
       let T = table_of t in
       let p = purged_by r T (block_firsts bs) (block_pasts bs) (windows bs) (T.span i) (length bs) in
       let tested = ranged (block_firsts bs) (block_pasts bs) (length bs) i in
-      worker_mark T (blocks_ranges h.blocks) (rule_of r) (leb used) (embargoes bs)
+      worker_mark T (blocks_ranges h.blocks) (rule_of r) unused (embargoes bs)
       (λ j l e. h.bounds.embargo j l ∙ ap (embargo_from T (block_firsts bs j)) (sym (block_past h.blocks j l))) width i p
       (row_purged r h i)
-      ∙ ap (mark tested (leb used i) p) (any-heads h.blocks (λ j. covers (embargoes bs j) width i))
+      ∙ ap (mark tested (unused i) p) (any-heads h.blocks (λ j. covers (embargoes bs j) width i))
 
 -- ---- a search over the blocks
 

@@ -35,6 +35,9 @@ module _ {f n k p g : ℕ} (w : Ahead f n k p g) (m j : ℕ) (em : n ≡ suc m) 
   ahead_here e = rw (← e, em, ej) (pth_here f m j p fewer)
 
   module _ (ne : f ≢ g) where
+    pub ahead_first : (c : ℕ) → c ≡ hold m j → p < c → Ahead (f + 1) m j p g
+    ahead_first c e lt = record { small = omega arith; low = omega arith; high = omega arith; some = rw e at lt }
+
     pub ahead_firsts : (r : ℕ) → Pth (listing (f + 1) m j) g p r → Pth (listing f n k) g p r
     ahead_firsts r q = rw (em, ej) (pth_first f m j (omega arith) (rw (add-one f) at q))
 

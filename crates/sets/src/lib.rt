@@ -12,3 +12,4 @@ pub mod triangle;
 
 pub use binomial::n_choose_k;
 pub use choice::{Choice, Split};
+pub use split::is_split;

@@ -55,7 +55,9 @@ impl Split {
     pub fn next(self) -> Option<FoldSet>
         ensures { result ≡ next_folds self.choice.n self.choice.k (list_of self.set) }
     {
-        let at = self.turn()?;
+        let Some(at) = self.turn() else {
+            return None;
+        };
         let rising = self.set.folds[at].0 + 1;
         Some(with_run(beginning(self.set, at), rising, self.choice.k - at))
     }

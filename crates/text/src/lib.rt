@@ -88,23 +88,18 @@ fn word(s: &[u8], base: u64) -> Option<u64>
     Some(v)
 }
 
-// The digit that a byte is in a base.
+// The digit that a byte is in a base: 0 to 9, and A to F for ten to fifteen (A is 65).
+#[tactic(auto, using(std::proofs::lemmas::Bool::Decides::nat_tests), unfolding(crate::specs::Numbers::digit_of))]
 fn digit(byte: u8, base: u64) -> Option<u64>
     ensures { result ≡ below base (digit_of byte) }
 {
-    any_digit(byte).filter(|d| *d < base)
-}
-
-// 0 to 9, and A to F for ten to fifteen: A is 65.
-#[tactic(auto, using(std::proofs::lemmas::Bool::Decides::nat_tests), unfolding(crate::specs::Numbers::digit_of))]
-fn any_digit(byte: u8) -> Option<u64>
-    ensures { result ≡ digit_of byte }
-{
-    match byte {
-        b'0'..=b'9' => Some(u64::from(byte - b'0')),
-        b'A'..=b'F' => Some(u64::from(byte - 55)),
-        _ => None,
-    }
+    let d = match byte {
+        b'0'..=b'9' => byte - b'0',
+        b'A'..=b'F' => byte - 55,
+        _ => return None,
+    };
+    let d = u64::from(d);
+    if d < base { Some(d) } else { None }
 }
 
 // The number itself, and its opposite, where 64 bits hold it. -0 is none.

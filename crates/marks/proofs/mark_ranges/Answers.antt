@@ -1,5 +1,6 @@
 -- The ranges are joined, the rule to work by is chosen, and neither changes the marks.
 use native.Mathlib.Omega.{arith}
+use lib.Dec.{leb}
 use Rattle.marks.proofs.WayLaws.{blocks_written}
 use Rattle.marks.proofs.mark_ranges.Goals as goal
 
@@ -12,5 +13,6 @@ mark_blocks-requires c =
 pub returns : goal.returns
 returns c =
     let g = c.args in
-    blocks_written g.sound.now.table g.ranges.now _ c.args.sound.now.good (c.merge_adjacent-blocks.ensures.joined _ c.requires.ranges)
-    g.terms.rule _ _ _ _ _ c.way-rule.ensures c.mark_blocks.ensures
+    let t = g.sound.now.table in
+    blocks_written t.starts.now t.ends.now c.args.sound.now.good (c.merge_adjacent-blocks.ensures.joined _ c.requires.ranges)
+    g.terms.rule _ (leb g.terms.used) _ _ _ c.way-rule.ensures c.mark_blocks.ensures

@@ -16,4 +16,4 @@ returns-clause-answer c =
     let a = c.args in
     let t = c.in_ok-counts.ensures in
     passed_first (numbers_checks a.n a.k) (no_split a.n a.k (list_of a.folds) ∷ []) tt tt t.answer
-    (rw (t.passed.0, t.passed.1) at c.fold_set.ensures.answer)
+    (rw (t.passed.0, t.passed.1) at c.split_of.ensures.answer)

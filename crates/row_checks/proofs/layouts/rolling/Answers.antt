@@ -13,14 +13,14 @@ returns-in_err-sound-clause-answer c =
     rw (exit_is _ _ c.from_residual.ensures.1)
     (refused_first c.in_err-sound.field-0.0 (rows_alone a.starts.now a.ends.now a.layout.pct_embargo a.room) ((zero_size a.layout.min_train_size a.layout.test_size a.layout.step_size ∷ nothing_to_test a.layout.min_train_size (length a.starts.now) ∷ []) ++ (no_such (length a.starts.now) (a.layout.min_train_size + a.s * a.layout.step_size) ∷ [])) (tt {0}) (tt {0}) c.in_err-sound.ensures.answer)
 
-pub returns-in_err-sizes-clause-answer : goal.returns-in_err-sizes-clause-answer
-returns-in_err-sizes-clause-answer c =
+pub returns-in_err-sizes_within-clause-answer : goal.returns-in_err-sizes_within-clause-answer
+returns-in_err-sizes_within-clause-answer c =
     let a = c.args in
     let t = c.in_ok-sound.ensures.passed in
-    rw (exit_is _ _ c.from_residual-in_err-sizes.ensures.1)
+    rw (exit_is _ _ c.from_residual-in_err-sizes_within.ensures.1)
     (passed_first (rows_alone a.starts.now a.ends.now a.layout.pct_embargo a.room) ((zero_size a.layout.min_train_size a.layout.test_size a.layout.step_size ∷ nothing_to_test a.layout.min_train_size (length a.starts.now) ∷ []) ++ (no_such (length a.starts.now) (a.layout.min_train_size + a.s * a.layout.step_size) ∷ [])) (tt {0}) (tt {0})
     c.in_ok-sound.ensures.answer
-    (refused_first c.in_err-sizes.field-0.0 (zero_size a.layout.min_train_size a.layout.test_size a.layout.step_size ∷ nothing_to_test a.layout.min_train_size (length a.starts.now) ∷ []) ((no_such (length a.starts.now) (a.layout.min_train_size + a.s * a.layout.step_size) ∷ [])) (tt {0}) (tt {0}) (rw (c.len-n.ensures, t.0) at c.in_err-sizes.ensures.answer)))
+    (refused_first c.in_err-sizes_within.field-0.0 (zero_size a.layout.min_train_size a.layout.test_size a.layout.step_size ∷ nothing_to_test a.layout.min_train_size (length a.starts.now) ∷ []) ((no_such (length a.starts.now) (a.layout.min_train_size + a.s * a.layout.step_size) ∷ [])) (tt {0}) (tt {0}) (rw (c.len-n.ensures, t.0) at c.in_err-sizes_within.ensures.answer)))
 
 pub returns-in_err-refuse_if-clause-answer : goal.returns-in_err-refuse_if-clause-answer
 returns-in_err-refuse_if-clause-answer c =
@@ -30,7 +30,7 @@ returns-in_err-refuse_if-clause-answer c =
     (passed_first (rows_alone a.starts.now a.ends.now a.layout.pct_embargo a.room) ((zero_size a.layout.min_train_size a.layout.test_size a.layout.step_size ∷ nothing_to_test a.layout.min_train_size (length a.starts.now) ∷ []) ++ (no_such (length a.starts.now) (a.layout.min_train_size + a.s * a.layout.step_size) ∷ [])) (tt {0}) (tt {0})
     c.in_ok-sound.ensures.answer
     (passed_first (zero_size a.layout.min_train_size a.layout.test_size a.layout.step_size ∷ nothing_to_test a.layout.min_train_size (length a.starts.now) ∷ []) ((no_such (length a.starts.now) (a.layout.min_train_size + a.s * a.layout.step_size) ∷ [])) (tt {0}) (tt {0})
-    (rw (c.len-n.ensures, t.0) at c.in_ok-sizes.ensures.answer)
+    (rw (c.len-n.ensures, t.0) at c.in_ok-sizes_within.ensures.answer)
     (rw (c.begins_past-past.ensures, c.len-n.ensures, t.0) at c.in_err-refuse_if.ensures.answer)))
 
 pub returns-clause-answer : goal.returns-clause-answer
@@ -40,5 +40,5 @@ returns-clause-answer c =
     passed_first (rows_alone a.starts.now a.ends.now a.layout.pct_embargo a.room) ((zero_size a.layout.min_train_size a.layout.test_size a.layout.step_size ∷ nothing_to_test a.layout.min_train_size (length a.starts.now) ∷ []) ++ (no_such (length a.starts.now) (a.layout.min_train_size + a.s * a.layout.step_size) ∷ [])) (tt {0}) (tt {0})
     c.in_ok-sound.ensures.answer
     (passed_first (zero_size a.layout.min_train_size a.layout.test_size a.layout.step_size ∷ nothing_to_test a.layout.min_train_size (length a.starts.now) ∷ []) ((no_such (length a.starts.now) (a.layout.min_train_size + a.s * a.layout.step_size) ∷ [])) (tt {0}) (tt {0})
-    (rw (c.len-n.ensures, t.0) at c.in_ok-sizes.ensures.answer)
+    (rw (c.len-n.ensures, t.0) at c.in_ok-sizes_within.ensures.answer)
     (rw (c.begins_past-past.ensures, c.len-n.ensures, t.0) at c.in_ok-refuse_if.ensures.answer))

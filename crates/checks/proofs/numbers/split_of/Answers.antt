@@ -1,5 +1,5 @@
 use Rattle.checks.proofs.ReadyLaws.{split_or}
-use Rattle.checks.proofs.numbers.fold_set.Goals as goal
+use Rattle.checks.proofs.numbers.split_of.Goals as goal
 
 pub returns-clause-answer : goal.returns-clause-answer
 returns-clause-answer c =
