@@ -26,7 +26,9 @@ fn check<'a>(
     ensures passed { IfOk result (λ p. Holds p.0 starts.now ends.now × Holds p.1 tests.now testends.now × (room ≡ length starts.now)) }
 {
     let table = groups::lengths(starts, ends)?;
-    let test = groups::lengths(tests, testends)?;
+    let Some(test) = Table::new(tests, testends) else {
+        return Err(Refusal::LengthsDiffer);
+    };
     numbers::list_length(room, table.len())?;
     Ok((table, test))
 }
