@@ -93,20 +93,6 @@ impl Kind {
         }
     }
 
-    // Is it asked of the table? The others need none.
-    pub fn needs_table(self) -> bool {
-        matches!(
-            self,
-            Kind::KfoldWindow
-                | Kind::CpcvWindow
-                | Kind::WalkForward
-                | Kind::KfoldPair
-                | Kind::CpcvPair
-                | Kind::Rolling
-                | Kind::TrainTimes
-        )
-    }
-
     pub fn is_skipped(self) -> bool {
         matches!(self, Kind::OverlapCount | Kind::Joining)
     }

@@ -21,6 +21,20 @@ use std::io::Read;
 use tables::Table;
 use tally::Tallies;
 
+// Is it asked of the table? The others need none.
+fn needs_table(kind: Kind) -> bool {
+    matches!(
+        kind,
+        Kind::KfoldWindow
+            | Kind::CpcvWindow
+            | Kind::WalkForward
+            | Kind::KfoldPair
+            | Kind::CpcvPair
+            | Kind::Rolling
+            | Kind::TrainTimes
+    )
+}
+
 // The questions about the table: a split of it, or train times.
 fn about_table(kind: Kind, line: &mut Cursor, table: &Table, tests: &mut Table) -> Option<Verdict> {
     let mut room = [0u8; 256];
@@ -97,7 +111,7 @@ impl Replay {
             return Verdict::Line(read.is_some() && fields.ended().is_some());
         }
         let mut fields = Cursor::new(line, 3);
-        if kind.needs_table() {
+        if needs_table(kind) {
             about_table(kind, &mut fields, &self.table, &mut self.tests).unwrap_or(Verdict::Line(
                 false,
             ))

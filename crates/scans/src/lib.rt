@@ -18,12 +18,16 @@ use spans::Table;
 pub fn first_backward(table: &Table) -> Option<usize>
     ensures { result ≡ backward_found table.now.starts.now table.now.ends.now }
 {
-    (0..table.len()).find(|i| table.ends[*i] < table.starts[*i])
+    table
+        .starts
+        .iter()
+        .zip(table.ends)
+        .position(|(start, end)| end < start)
 }
 
 // Does some row start earlier than the row before it?
 pub fn starts_fall(starts: &[i64]) -> bool
     ensures { result ≡ starts_fall starts.now }
 {
-    starts.windows(2).any(|pair| pair[1] < pair[0])
+    !starts.is_sorted_by(|a, b| a <= b)
 }
