@@ -35,8 +35,8 @@ fn dropped(t: Span, a: Span) -> bool
     lies_in(a.start, t) || lies_in(a.end, t) || holds(a, t)
 }
 
-// Is span a dropped for some test span? Whether there is one is asked apart, as it is the same for every row: without test
-// spans no row is looked at.
+// Is span a dropped for some test span? Whether there is one is asked apart, since it is the same for every row: so the
+// compiler asks it once, and without test spans looks at no row.
 fn dropped_by_some(a: Span, tests: &Table) -> bool
     ensures { result ≡ dropped_by_some tests.now.starts.now tests.now.ends.now a }
 {
