@@ -1,7 +1,7 @@
 -- Starts are in order just where none falls.
-use mathlib.Core.Path.{◌≡◌, refl, sym, ap, ◌∙◌}
+use mathlib.Core.Path.{◌≡◌, sym, ap, ◌∙◌}
 use mathlib.Core.Bool.{Bool, true, false, not, not-not}
-use mathlib.Core.List.{List}
+use mathlib.Core.List.{List, []}
 use Prim.Native.Nat.{◌+◌, ◌-◌}
 use native.Mathlib.Omega.{arith}
 use lib.IntN.{ℤ, pos}
@@ -9,16 +9,14 @@ use lib.Signed.{lt_z, le_z}
 use lib.ListN.{length, get_or}
 use Rattle.std.specs.List.{IsAllAdjacentAnswer}
 use Rattle.lists.specs.AnyLaws.{any_here, any_none}
-use Rattle.lists.specs.IntegerLaws.{lt_z_above, lt_z_not}
+use Rattle.paper.specs.Spans.{reaches, table}
+use Rattle.paper.proofs.SpansMeaning.{good_is}
 use Rattle.scans.specs.Falls.{is_fall, starts_fall}
 
--- The test of the code, by the one of the paper.
+-- The test of the code, by the one of the paper: what makes a span good.
 in_order : (x y : ℤ) → le_z x y ≡ not (lt_z y x)
-in_order x y = go (lt_z y x) refl
-  where
-    go : (b : Bool) → lt_z y x ≡ b → le_z x y ≡ not (lt_z y x)
-    go true e = rw e (lt_z_above y x e)
-    go false e = rw e (lt_z_not y x e)
+unfolding reaches
+in_order x y = good_is (table [] []) (record { start = x; end = y })
 
 -- What `is_sorted_by` finds, negated.
 pub fall_found : (starts : List ℤ) (r : Bool) → IsAllAdjacentAnswer (λ x y b. b ≡ le_z x y) starts r → not r ≡ starts_fall starts
